@@ -45,6 +45,10 @@ keyOk k = between 32 k 47
 abbrev pub controlPages : ℕ
 controlPages = 4
 
+-- the words of a lent domain record: one of scalars, and one for each control page
+abbrev pub recordWords : ℕ
+recordWords = 5
+
 -- "gpa: bytes, below 2^47"
 abbrev pub gpaEnd : ℕ
 gpaEnd = 2 ^ 47

@@ -15,6 +15,8 @@ pub const TABLES_LEAST: u64 = 4;
 pub const TABLES_MOST: u64 = 64;
 pub const TABLE_ENTRIES: usize = 512;
 pub const CONTROL_PAGES: usize = 4;
+// A lent domain record: a word of scalars, and a word for each control page.
+pub const RECORD_WORDS: usize = 5;
 pub const KEY_LEAST: u64 = 32;
 pub const KEY_MOST: u64 = 47;
 pub const EPOCH_LEAST: u64 = 1;

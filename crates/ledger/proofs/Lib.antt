@@ -1,0 +1,3 @@
+pub mod Packing
+pub mod Outside
+pub mod Lens

@@ -1,0 +1,19 @@
+use Rattle.rules.proofs.Steps.{steps}
+use Rattle.ledger.specs.Range.{frameLimits}
+use borrow.Author.Needs.{needs}
+use Rattle.ledger.proofs.range.frame_limits.Statement.{statement}
+use Rattle.ledger.proofs.range.frame_limits.Tie as tie
+
+pub frame-limits-spec : {M : Type 1} → statement M
+unfolding frameLimits
+frame-limits-spec =
+    tie.close
+    (tie.spec
+    (λ c. search steps depth 12)
+    (λ c. search steps depth 12)
+    (λ c. search steps depth 12)
+    (λ c. search needs)
+    (λ c. search steps depth 12)
+    (λ c. search needs)
+    (λ c. search steps depth 12)
+    (λ c. search steps depth 12))

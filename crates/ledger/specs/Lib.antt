@@ -1,0 +1,6 @@
+pub mod Codes
+pub mod Words
+pub mod Tables
+pub mod Count
+pub mod Sizes
+pub mod Range

@@ -1,0 +1,42 @@
+-- The sizes of what is lent, by the lengths of the lent slices, and document 01's limits on them.
+use Prim.Native.Nat.{ℕ, _+_, _-_, _/_, _%_}
+use mathlib.Core.Bool.{Bool, false}
+use lib.Dec.{eqb, ltb}
+use Rattle.rules.specs.Rule.{iff, need, given}
+use Rattle.units.specs.Limits as limits
+use Rattle.units.specs.declared.address.Hpa.{Hpa}
+use Rattle.ledger.specs.declared.sizes.Sizes.{Sizes}
+
+-- a block is 512 entries: tables first, then the records' roots
+unfoldable pub tablesOf : ℕ → ℕ → ℕ
+tablesOf domains entries = entries / limits.tableEntries - domains / limits.recordWords
+
+-- the block of record r's root; a record beyond the stock has none: the block after the last
+unfoldable pub rootOf : ℕ → ℕ → ℕ → ℕ
+rootOf domains entries r =
+    iff (ltb r (domains / limits.recordWords)) (entries / limits.tableEntries - domains / limits.recordWords + r)
+    (entries / limits.tableEntries)
+
+unfoldable pub sizesOf : ℕ → ℕ → ℕ → Sizes
+sizesOf frames domains entries = record {
+  frames = frames;
+  records = domains / limits.recordWords;
+  tables = tablesOf domains entries;
+}
+
+-- whole records, whole blocks, and a bit for each block, 64 to a word
+unfoldable pub lengthsOk : ℕ → ℕ → ℕ → Bool
+lengthsOk domains stock entries =
+    need (eqb (domains % limits.recordWords) 0) false (
+    need (eqb (entries % limits.tableEntries) 0) false
+    (eqb stock ((entries / limits.tableEntries + 63) / 64)))
+
+-- answer 13: "lent sizes or base outside the limits"
+unfoldable pub sizesOk : Hpa → ℕ → ℕ → ℕ → ℕ → Bool
+sizesOk base frames domains stock entries =
+    given (sizesOf frames domains entries) λ s.
+    need (limits.baseOk base) false (
+    need (limits.framesOk (s .frames)) false (
+    need (limits.recordsOk (s .records)) false (
+    need (limits.tablesOk (s .tables)) false
+    (lengthsOk domains stock entries))))

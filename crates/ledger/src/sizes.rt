@@ -1,0 +1,85 @@
+// The sizes of what is lent. They come from the lengths of the lent slices, so that they can't disagree with them.
+ghost use mathlib.Core.Path.{_≡_};
+ghost use Prim.Native.Nat.{_-_};
+ghost use Rattle.ledger.specs.Sizes.{tablesOf, rootOf, sizesOf, lengthsOk, sizesOk};
+use units::address::Hpa;
+use units::limits;
+use units::limits::{RECORD_WORDS, TABLE_ENTRIES};
+use stock::bits::WORD_BITS;
+
+pub struct Sizes {
+    pub frames: usize,
+    pub records: usize,
+    pub tables: usize,
+}
+
+// a - b, and 0 where that is below zero.
+pub fn minus(a: usize, b: usize) -> usize
+    ensures { λ r. ⌜ r ≡ a - b ⌝ }
+{
+    if a < b {
+        return 0;
+    }
+    a - b
+}
+
+// How many blocks are tables: every block that is no record's root.
+pub fn tables_of(domains: usize, entries: usize) -> usize
+    ensures { λ r. ⌜ r ≡ tablesOf domains entries ⌝ }
+{
+    minus(entries / TABLE_ENTRIES, domains / RECORD_WORDS)
+}
+
+// The block of a record's root. A record beyond the stock has none: the block after the last.
+pub fn root_of(domains: usize, entries: usize, rec: usize) -> usize
+    ensures { λ r. ⌜ r ≡ rootOf domains entries rec ⌝ }
+{
+    if rec < domains / RECORD_WORDS {
+        return minus(entries / TABLE_ENTRIES, domains / RECORD_WORDS) + rec;
+    }
+    entries / TABLE_ENTRIES
+}
+
+// The sizes behind slices of these lengths.
+pub fn sizes_of(frames: usize, domains: usize, entries: usize) -> Sizes
+    ensures { λ r. ⌜ r ≡ sizesOf frames domains entries ⌝ }
+{
+    Sizes {
+        frames,
+        records: domains / RECORD_WORDS,
+        tables: tables_of(domains, entries),
+    }
+}
+
+// Whether slices of these lengths fit sizes and a base within the limits.
+pub fn sizes_ok(base: Hpa, frames: usize, domains: usize, stock: usize, entries: usize) -> bool
+    ensures { λ r. ⌜ r ≡ sizesOk base frames domains stock entries ⌝ }
+{
+    let s = sizes_of(frames, domains, entries);
+    if !limits::base_ok(base) {
+        return false;
+    }
+    if !limits::frames_ok(s.frames as u64) {
+        return false;
+    }
+    if !limits::records_ok(s.records as u64) {
+        return false;
+    }
+    if !limits::tables_ok(s.tables as u64) {
+        return false;
+    }
+    lengths_ok(domains, stock, entries)
+}
+
+// Whole records, whole blocks, and as many words of in-use bits as the blocks take.
+fn lengths_ok(domains: usize, stock: usize, entries: usize) -> bool
+    ensures { λ r. ⌜ r ≡ lengthsOk domains stock entries ⌝ }
+{
+    if domains % RECORD_WORDS != 0 {
+        return false;
+    }
+    if entries % TABLE_ENTRIES != 0 {
+        return false;
+    }
+    stock == (entries / TABLE_ENTRIES + (WORD_BITS - 1)) / WORD_BITS
+}

@@ -1,0 +1,54 @@
+-- The entry that a call is about: the walk's 6 or 14, then the entry's 7.
+use Prim.Native.Nat.{ℕ}
+use mathlib.Core.Bool.{Bool}
+use lib.Dec.{eqb, ltb}
+use Rattle.rules.specs.Rule.{iff, need, given}
+use Rattle.rules.specs.Upto.{allFrom}
+use Rattle.units.specs.Limits.{between, tableEntries}
+use Rattle.units.specs.Level.{topLevel}
+use Rattle.units.specs.declared.address.Gpa.{Gpa}
+use Rattle.units.specs.declared.address.Pfn.{Pfn}
+use Rattle.ledger.specs.Codes.{FREE, NL-MAPPED, MAPPED, PENDING, NL-BLOCKED, BLOCKED, PENDING-BLOCKED}
+use Rattle.ledger.specs.Tables.{Tables, frameAt, entryAt}
+use Rattle.ledger.specs.declared.words.Entry.{Entry}
+use Rattle.walk.specs.Walk.{walkFrom, onWalk}
+use Rattle.walk.specs.declared.Walk.{Walk}
+use Rattle.calls.specs.declared.Answer.{Answer}
+use Rattle.calls.specs.declared.Answer.the-variants.{No, Stop}
+use Rattle.plan.specs.declared.lookup.Found.{Found}
+use Rattle.plan.specs.declared.entry.Reach.{Reach}
+use Rattle.plan.specs.declared.entry.Reach.the-variants.{At, Not}
+
+-- "begin at the root with level 3"
+abbrev pub walkOf : Tables → Found → Gpa → ℕ → Walk
+walkOf t x gpa level = walkFrom (t .frames) (t .stock) (t .entries) (x .tdr) gpa level topLevel (x .root)
+
+-- the entry's state from `least` to `most`
+unfoldable pub entryFor : Tables → Found → Gpa → ℕ → ℕ → ℕ → Reach
+entryFor t x gpa level least most =
+    onWalk (walkOf t x gpa level) (λ l s. Not (Stop 6 l s)) (Not (No 14 0)) λ b i.
+    given (entryAt (t .entries) b i) λ e.
+    need (between least (e .state) most) (Not (Stop 7 level (e .state)))
+    (At b i e)
+
+unfoldable pub onReach : {A : Type 0} → Reach → (Answer → A) → (ℕ → ℕ → Entry → A) → A
+onReach (Not a) z k = z a
+onReach (At b i e) z k = k b i e
+
+-- block: "entry 1, 2 or 3" to "entry 4, 5 or 6"; unblock: back
+unfoldable pub blockedState : ℕ → ℕ
+blockedState s = iff (eqb s NL-MAPPED) NL-BLOCKED (iff (eqb s MAPPED) BLOCKED PENDING-BLOCKED)
+
+unfoldable pub unblockedState : ℕ → ℕ
+unblockedState s = iff (eqb s NL-BLOCKED) NL-MAPPED (iff (eqb s BLOCKED) MAPPED PENDING)
+
+-- "Tracked" means that the frame's epoch is below the domain's.
+unfoldable pub isTracked : Tables → Pfn → Found → Bool
+isTracked t n x = given (frameAt (t .frames) n) λ f. ltb (f .epoch) (x .dom .epoch)
+
+-- "its 512 entries FREE"
+unfoldable pub freeAt : Tables → ℕ → ℕ → Bool
+freeAt t b i = given (entryAt (t .entries) b i) λ e. eqb (e .state) FREE
+
+unfoldable pub tableEmpty : Tables → ℕ → Bool
+tableEmpty t b = allFrom (freeAt t b) 0 tableEntries

@@ -1,0 +1,6 @@
+pub mod Edits
+pub mod Lookup
+pub mod Domains
+pub mod Entries
+pub mod Trees
+pub mod Pages

@@ -1,0 +1,49 @@
+// What an accepted call writes: at most one frame, one control page, one domain's scalars, one block of the stock and one entry.
+ghost use mathlib.Core.Path.{_≡_};
+use calls::Answer;
+use ledger::words::{Domain, Entry, Frame};
+use units::address::Pfn;
+
+pub enum FrameEdit {
+    Keep,
+    Set(Pfn, Frame),
+}
+
+// A record's control page, by its place in the list.
+pub enum PageEdit {
+    Keep,
+    Set(usize, usize, Pfn),
+}
+
+pub enum DomainEdit {
+    Keep,
+    Set(usize, Domain),
+}
+
+// A table taken; a record taken, by the block of its root and its number; a block given back.
+pub enum StockEdit {
+    Keep,
+    Table(usize),
+    Record(usize, usize),
+    Give(usize),
+}
+
+// An entry, by its block and index.
+pub enum EntryEdit {
+    Keep,
+    Set(usize, usize, Entry),
+}
+
+pub struct Edit {
+    pub frame: FrameEdit,
+    pub page: PageEdit,
+    pub domain: DomainEdit,
+    pub stock: StockEdit,
+    pub entry: EntryEdit,
+}
+
+// An answer that changes no table, or what an accepted call writes.
+pub enum Plan {
+    Say(Answer),
+    Do(Edit),
+}

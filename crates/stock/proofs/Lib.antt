@@ -1,0 +1,4 @@
+pub mod Bit
+pub mod Uses
+pub mod Lowest
+pub mod Wipes

@@ -1,0 +1,43 @@
+-- "Each says whether it is in use": the bit of block b is bit b % 64 of word b / 64.
+use Prim.Native.Nat.{ℕ, zero, suc, _+_, _-_, _/_, _%_, _^_}
+use mathlib.Core.Bool.{Bool}
+use mathlib.Core.List.{List}
+use lib.ListN.{getD, set}
+use lib.Dec.{eqb, ltb}
+use Rattle.rules.specs.Rule.{iff}
+use Rattle.stock.specs.declared.bits.Lowest.{Lowest}
+use Rattle.stock.specs.declared.bits.Lowest.the-variants.{At, Full}
+
+unfoldable pub wordOf : List ℕ → ℕ → ℕ
+wordOf ws b = getD ws (b / 64) 0
+
+unfoldable pub bitSet : ℕ → ℕ → Bool
+bitSet w k = eqb (w / 2 ^ k % 2) 1
+
+unfoldable pub inUse : List ℕ → ℕ → Bool
+inUse ws b = bitSet (wordOf ws b) (b % 64)
+
+-- the word w with bit k on or off, and its other bits as they are
+unfoldable pub withBit : ℕ → ℕ → Bool → ℕ
+withBit w k on = iff (bitSet w k) (iff on w (w - 2 ^ k)) (iff on (w + 2 ^ k) w)
+
+unfoldable pub setUse : List ℕ → ℕ → Bool → List ℕ
+setUse ws b on = set ws (b / 64) (withBit (wordOf ws b) (b % 64) on)
+
+-- "A record or a table is taken lowest number first": the lowest of the k blocks from b on that isn't in use
+module _ (ws : List ℕ) where
+  unfoldable pub lowestFrom : ℕ → ℕ → Lowest
+  lowestFrom b zero = Full
+  lowestFrom b (suc k) = iff (inUse ws b) (lowestFrom (b + 1) k) (At b)
+
+  -- from `from` up to but not including `to`
+  unfoldable pub lowestUnused : ℕ → ℕ → Lowest
+  lowestUnused from to = lowestFrom from (to - from)
+
+unfoldable pub onLowest : {A : Type 0} → Lowest → A → (ℕ → A) → A
+onLowest Full z k = z
+onLowest (At b) z k = k b
+
+-- the bits of blocks from n on are zero, in the word of block n. (Where n fills its words that is one past them, and reads 0.)
+unfoldable pub spareClear : List ℕ → ℕ → Bool
+spareClear ws n = ltb (wordOf ws n) (2 ^ (n % 64))
