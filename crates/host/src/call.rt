@@ -1,0 +1,80 @@
+// Any host call, by value and without its gauge lent: what the thin entries for callers stand on.
+ghost use mathlib.Core.Path.{_≡_};
+ghost use Rattle.ledger.specs.Tables.{lent};
+ghost use Rattle.host.specs.Calls.{planOf, outcome, gaugeAfter, ruleOf, callOf};
+use crate::carry;
+use calls::{Answer, Call};
+use gauge::Gauge;
+use ledger::codes::{INITIALIZED, MAPPED, PENDING, RUNNABLE};
+use ledger::count;
+use ledger::range;
+use plan::domain;
+use plan::edit::Plan;
+use plan::page;
+use plan::tree;
+use units::address::Hpa;
+
+// What a call answers, and the gauge after it.
+pub struct Reply {
+    pub answer: Answer,
+    pub gauge: Gauge,
+}
+
+fn plan_of(base: Hpa, frames: &[u64], domains: &[u64], stock: &[u64], entries: &[u32], c: Call) -> Plan
+    ensures { λ r. ⌜ r ≡ planOf base (lent (now (frames .entry)) (now (domains .entry)) (now (stock .entry)) (now (entries .entry))) c ⌝ }
+{
+    match c {
+        Call::Create(f, key) => domain::plan_create(base, frames, domains, stock, entries, f, key),
+        Call::KeyConfig(d) => domain::plan_keyconfig(base, frames, domains, stock, entries, d),
+        Call::AddCx(d, f) => domain::plan_addcx(base, frames, domains, stock, entries, d, f),
+        Call::Init(d) => domain::plan_init(base, frames, domains, stock, entries, d),
+        Call::SeptAdd(d, gpa, level, f) => tree::plan_septadd(base, frames, domains, stock, entries, d, gpa, level, f),
+        Call::PageAdd(d, gpa, f) => tree::plan_page(base, frames, domains, stock, entries, d, gpa, f, INITIALIZED, MAPPED),
+        Call::Finalize(d) => domain::plan_finalize(base, frames, domains, stock, entries, d),
+        Call::PageAug(d, gpa, f) => tree::plan_page(base, frames, domains, stock, entries, d, gpa, f, RUNNABLE, PENDING),
+        Call::Block(d, gpa, level) => tree::plan_block(base, frames, domains, stock, entries, d, gpa, level),
+        Call::Track(d) => domain::plan_track(base, frames, domains, stock, entries, d),
+        Call::Unblock(d, gpa, level) => tree::plan_unblock(base, frames, domains, stock, entries, d, gpa, level),
+        Call::PageRemove(d, gpa) => tree::plan_pageremove(base, frames, domains, stock, entries, d, gpa),
+        Call::SeptRemove(d, gpa, level) => tree::plan_septremove(base, frames, domains, stock, entries, d, gpa, level),
+        Call::FlushDone(d) => domain::plan_flushdone(base, frames, domains, stock, entries, d),
+        Call::KeyFree(d) => domain::plan_keyfree(base, frames, domains, stock, entries, d),
+        Call::Reclaim(f) => page::plan_reclaim(base, frames, domains, stock, entries, f),
+        Call::ReadPage(f) => page::plan_readpage(base, frames, domains, stock, entries, f),
+        Call::ReadEntry(d, gpa, level) => tree::plan_readentry(base, frames, domains, stock, entries, d, gpa, level),
+    }
+}
+
+// The gauge after an answer: an accepted call stores the new fill.
+fn gauge_after(frames: &[u64], g: Gauge, a: Answer) -> Gauge
+    ensures { λ r. ⌜ r ≡ gaugeAfter g a (now (frames .entry)) ⌝ }
+{
+    let v = calls::values_of(a);
+    if v.number != 0 {
+        return g;
+    }
+    gauge::updated(g, count::used_frames(frames), frames.len() as u64)
+}
+
+// The call's own rule, without answer 13.
+pub fn apply_rule(base: Hpa, frames: &mut [u64], domains: &mut [u64], stock: &mut [u64], entries: &mut [u32], g: Gauge, c: Call) -> Reply
+    ensures { λ r. ⌜ outcome (r .answer) (lent (now (frames .exit)) (now (domains .exit)) (now (stock .exit)) (now (entries .exit))) (r .gauge) ≡ ruleOf base (lent (now (frames .entry)) (now (domains .entry)) (now (stock .entry)) (now (entries .entry))) g c ⌝ }
+{
+    let p = plan_of(base, frames, domains, stock, entries, c);
+    let answer = carry::carry(frames, domains, stock, entries, p);
+    let gauge = gauge_after(frames, g, answer);
+    Reply { answer, gauge }
+}
+
+// Any call on any lent tables and gauge.
+pub fn answer_call(base: Hpa, frames: &mut [u64], domains: &mut [u64], stock: &mut [u64], entries: &mut [u32], g: Gauge, c: Call) -> Reply
+    ensures { λ r. ⌜ outcome (r .answer) (lent (now (frames .exit)) (now (domains .exit)) (now (stock .exit)) (now (entries .exit))) (r .gauge) ≡ callOf base (lent (now (frames .entry)) (now (domains .entry)) (now (stock .entry)) (now (entries .entry))) g c ⌝ }
+{
+    if !range::lent_ok(base, frames, domains, stock, entries) {
+        return Reply { answer: Answer::No(13, 0), gauge: g };
+    }
+    if !gauge::marks_ok(g.raise, g.clear, frames.len() as u64) {
+        return Reply { answer: Answer::No(13, 0), gauge: g };
+    }
+    apply_rule(base, frames, domains, stock, entries, g, c)
+}
