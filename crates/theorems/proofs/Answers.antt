@@ -1,0 +1,137 @@
+-- Each number is given exactly when its check fails and no check before it does, and the checks stand in the paper's order.
+use mathlib.Core.Path.{_≡_, refl, sym, subst, _∙_}
+use mathlib.Core.Bool.{Bool, true, false}
+use mathlib.Core.List.{List, [], _∷_}
+use mathlib.Core.Logic.{_⊎_, inl, inr}
+use Prim.Native.Nat.{ℕ}
+use native.Mathlib.Omega.{arith}
+use lib.ListN.{length}
+use Rattle.rules.specs.Rule.{iff}
+use Rattle.gauge.specs.Marks.{marksOk}
+use Rattle.gauge.specs.declared.Gauge.{Gauge}
+use Rattle.ledger.specs.Range.{lentOk}
+use Rattle.calls.specs.Answers.{valuesOf, numberOf}
+use Rattle.calls.specs.declared.Answer.the-variants.{No}
+use Rattle.plan.specs.declared.edit.Plan.{Plan}
+use Rattle.plan.specs.declared.edit.Plan.the-variants.{Say, Do}
+use Rattle.host.specs.Carry.{carried}
+use Rattle.units.specs.declared.address.Hpa.{Hpa}
+use Rattle.ledger.specs.Codes.{TDR}
+use Rattle.ledger.specs.Tables.{Tables}
+use Rattle.calls.specs.declared.Call.{Call}
+use Rattle.calls.specs.declared.Call.the-variants as call
+use Rattle.plan.specs.Domains.{gain, lose, keyconfigPlan, initPlan, finalizePlan, trackPlan, flushdonePlan, keyfreePlan, enlistAt, addcxPlan, newRecord, createAt, createPlan}
+use Rattle.plan.specs.Trees.{septAt, pageAt, septaddPlan, pagePlan, blockAt, blockPlan, unblockAt, unblockPlan, pageremoveAt, pageremovePlan, septremoveAt, septremovePlan, readentryAt, readentryPlan}
+use Rattle.plan.specs.Pages.{reclaimTdr, reclaimChild, reclaimAt, reclaimPlan, readpagePlan}
+use Rattle.host.specs.Calls.{Outcome, outcome, planOf, settled, ruleOf, callOf}
+use Rattle.theorems.specs.Checks.{kindIs, window, ofTdr, ofChild, reads, checksOf, allChecks}
+use Rattle.theorems.specs.Order.{Reason, tables, marks, operand, domain, record′, lifecycle, pages, opState, offered, key, stopped, foreign, entry, untracked, frame, remain, stock, epoch, count, number, Check, check, firstNo, inOrder, Fails, here, later, Passes, none, one}
+use Rattle.theorems.proofs.Firsts.{numberP, Numbers, window-first, spot-first, domain-first, owner-first, built-first, reach-first, walk-first, stock-first, child-first, needed, unless, either, both, named-is, done, page-read, entry-read}
+
+-- a call's plan answers with the number of its first check that fails
+pub plan-first : (base : Hpa) (t : Tables) (c : Call) → Numbers (reads c) (planOf base t c) (checksOf base t c)
+unfolding planOf reads checksOf createPlan createAt newRecord keyconfigPlan addcxPlan enlistAt gain initPlan septaddPlan septAt pagePlan pageAt finalizePlan blockPlan blockAt trackPlan unblockPlan unblockAt pageremovePlan pageremoveAt lose septremovePlan septremoveAt flushdonePlan keyfreePlan readpagePlan readentryPlan readentryAt reclaimPlan reclaimAt reclaimTdr reclaimChild
+plan-first base t (call.Create f k) = window-first _ _ _ _ _ (needed _ _ _ (named-is _ _ (needed _ _ _ (named-is _ _ (needed _ _ _ (stock-first _ _ λ b. named-is _ _ (done _)))))))
+plan-first base t (call.KeyConfig d) = window-first _ _ _ _ _ (domain-first _ _ _ (needed _ _ _ (named-is _ _ (done _))))
+plan-first base t (call.AddCx d f) = window-first _ _ _ _ _ (window-first _ _ _ _ _ (domain-first _ _ _ (needed _ _ _ (needed _ _ _ (named-is _ _ (needed _ _ _ (needed _ _ _ (named-is _ _ (done _)))))))))
+plan-first base t (call.Init d) = window-first _ _ _ _ _ (built-first _ _ _ _ _ (named-is _ _ (done _)))
+plan-first base t (call.SeptAdd d gpa level f) = spot-first _ _ _ _ _ _ _ (window-first _ _ _ _ _ (built-first _ _ _ _ _ (named-is _ _ (needed _ _ _ (reach-first _ _ _ _ _ _ _ λ b i. named-is _ _ (stock-first _ _ λ table. needed _ _ _ (named-is _ _ (done _))))))))
+plan-first base t (call.PageAdd d gpa f) = spot-first _ _ _ _ _ _ _ (window-first _ _ _ _ _ (built-first _ _ _ _ _ (named-is _ _ (needed _ _ _ (reach-first _ _ _ _ _ _ _ λ b i. needed _ _ _ (named-is _ _ (done _)))))))
+plan-first base t (call.Finalize d) = window-first _ _ _ _ _ (built-first _ _ _ _ _ (named-is _ _ (done _)))
+plan-first base t (call.PageAug d gpa f) = spot-first _ _ _ _ _ _ _ (window-first _ _ _ _ _ (built-first _ _ _ _ _ (named-is _ _ (needed _ _ _ (reach-first _ _ _ _ _ _ _ λ b i. needed _ _ _ (named-is _ _ (done _)))))))
+plan-first base t (call.Block d gpa level) = spot-first _ _ _ _ _ _ _ (built-first _ _ _ _ _ (reach-first _ _ _ _ _ _ _ λ b i. needed _ _ _ (named-is _ _ (named-is _ _ (named-is _ _ (done _))))))
+plan-first base t (call.Track d) = window-first _ _ _ _ _ (built-first _ _ _ _ _ (needed _ _ _ (named-is _ _ (done _))))
+plan-first base t (call.Unblock d gpa level) = spot-first _ _ _ _ _ _ _ (built-first _ _ _ _ _ (reach-first _ _ _ _ _ _ _ λ b i. needed _ _ _ (needed _ _ _ (named-is _ _ (done _)))))
+plan-first base t (call.PageRemove d gpa) = spot-first _ _ _ _ _ _ _ (built-first _ _ _ _ _ (reach-first _ _ _ _ _ _ _ λ b i. needed _ _ _ (needed _ _ _ (unless _ _ _ (named-is _ _ (done _))))))
+plan-first base t (call.SeptRemove d gpa level) = spot-first _ _ _ _ _ _ _ (built-first _ _ _ _ _ (reach-first _ _ _ _ _ _ _ λ b i. needed _ _ _ (needed _ _ _ (named-is _ _ (needed _ _ _ (unless _ _ _ (named-is _ _ (done _))))))))
+plan-first base t (call.FlushDone d) = window-first _ _ _ _ _ (domain-first _ _ _ (needed _ _ _ (named-is _ _ (done _))))
+plan-first base t (call.KeyFree d) = window-first _ _ _ _ _ (domain-first _ _ _ (needed _ _ _ (named-is _ _ (done _))))
+plan-first base t (call.Reclaim f) =
+    window-first _ _ _ _ _ (named-is _ _ (unless _ _ _ (either _
+    (owner-first _ _ _ (needed _ _ _ (needed _ _ _ (done _))))
+    (owner-first _ _ _ (needed _ _ _ (child-first _ _ _ (unless _ _ _ (named-is _ _ (done _))) (unless _ _ _ (named-is _ _ (done _)))))))))
+plan-first base t (call.ReadPage f) = window-first _ _ _ _ _ (named-is _ _ (both _ (page-read _ _) (named-is _ _ (page-read _ _))))
+plan-first base t (call.ReadEntry d gpa level) = spot-first _ _ _ _ _ _ _ (built-first _ _ _ _ _ (walk-first _ _ λ b i. named-is _ _ (both _ (entry-read _ _ _) (named-is _ _ (entry-read _ _ _)))))
+
+carried-number : (g : Gauge) (t : Tables) (p : Plan) → numberOf (settled g (carried t p) .answer) ≡ numberP p
+unfolding settled carried numberP valuesOf
+carried-number g t (Say a) = refl
+carried-number g t (Do e) = refl
+
+by-thirteen : (a b : Bool) (t : Tables) (g : Gauge) (o : Outcome) (cs : List Check) → numberOf (o .answer) ≡ firstNo cs
+    → numberOf (iff a (iff b o (outcome (No 13 0) t g)) (outcome (No 13 0) t g) .answer) ≡ firstNo (check tables a ∷ check marks b ∷ cs)
+unfolding firstNo iff valuesOf
+by-thirteen false b t g o cs e = refl
+by-thirteen true false t g o cs e = refl
+by-thirteen true true t g o cs e = e
+
+-- A call's answer has the number of the first check of its row that fails, 13's checks first, and 0 where none fails.
+pub answered : (base : Hpa) (t : Tables) (g : Gauge) (c : Call) → numberOf (callOf base t g c .answer) ≡ firstNo (allChecks base t g c)
+unfolding callOf ruleOf
+answered base t g c =
+    by-thirteen (lentOk base t) (marksOk (g .raise) (g .clear) (length (t .frames))) t g _ (checksOf base t c)
+    (carried-number g t (planOf base t c) ∙ plan-first base t c .is)
+
+-- So a number is given exactly when a check of that number fails and none before it does ..
+pub fails-given : (n : ℕ) (cs : List Check) → Fails n cs → firstNo cs ≡ n
+unfolding firstNo iff
+fails-given n (c ∷ cs) (here e) = e
+fails-given n (c ∷ cs) (later f) = fails-given n cs f
+
+-- .. and 0 exactly when none fails.
+pub passes-given : (cs : List Check) → Passes cs → firstNo cs ≡ 0
+unfolding firstNo iff
+passes-given [] none = refl
+passes-given (c ∷ cs) (one p) = passes-given cs p
+
+by-why : (w : Reason) (b : Bool) (cs : List Check) → Fails (firstNo cs) cs ⊎ Passes cs → Fails (firstNo (check w b ∷ cs)) (check w b ∷ cs) ⊎ Passes (check w b ∷ cs)
+unfolding firstNo iff
+by-why w false cs r = inl (here refl)
+by-why w true cs (inl f) = inl (later f)
+by-why w true cs (inr p) = inr (one p)
+
+pub given-why : (cs : List Check) → Fails (firstNo cs) cs ⊎ Passes cs
+given-why [] = inr none
+given-why (c ∷ cs) = by-why (c .why) (c .well) cs (given-why cs)
+
+-- The checks of every row stand in the order of the paper's paragraph "Order", reclaim's own order included.
+either-order : (p : ℕ) (b : Bool) (cs ds : List Check) → inOrder p cs ≡ true → inOrder p ds ≡ true → inOrder p (iff b cs ds) ≡ true
+unfolding iff
+either-order p true cs ds e f = e
+either-order p false cs ds e f = f
+
+pub ordered : (base : Hpa) (t : Tables) (g : Gauge) (c : Call) → inOrder 0 (allChecks base t g c) ≡ true
+unfolding inOrder iff checksOf
+ordered base t g (call.Create f k) = refl
+ordered base t g (call.KeyConfig d) = refl
+ordered base t g (call.AddCx d f) = refl
+ordered base t g (call.Init d) = refl
+ordered base t g (call.SeptAdd d gpa level f) = refl
+ordered base t g (call.PageAdd d gpa f) = refl
+ordered base t g (call.Finalize d) = refl
+ordered base t g (call.PageAug d gpa f) = refl
+ordered base t g (call.Block d gpa level) = refl
+ordered base t g (call.Track d) = refl
+ordered base t g (call.Unblock d gpa level) = refl
+ordered base t g (call.PageRemove d gpa) = refl
+ordered base t g (call.SeptRemove d gpa level) = refl
+ordered base t g (call.FlushDone d) = refl
+ordered base t g (call.KeyFree d) = refl
+ordered base t g (call.Reclaim f) = either-order 2 (kindIs t (window base t f) TDR) (ofTdr base t (window base t f)) (ofChild base t (window base t f)) refl refl
+ordered base t g (call.ReadPage f) = refl
+ordered base t g (call.ReadEntry d gpa level) = refl
+
+-- readpage refuses only with 13 or 1.
+Page : ℕ → Type 0
+Page n = (n ≡ 0) ⊎ ((n ≡ 1) ⊎ (n ≡ 13))
+
+by-page : (a b c : Bool) → Page (firstNo (check tables a ∷ check marks b ∷ check operand c ∷ []))
+unfolding Page firstNo iff
+by-page false b c = inr (inr refl)
+by-page true false c = inr (inr refl)
+by-page true true false = inr (inl refl)
+by-page true true true = inl refl
+
+pub readpage-refuses : (base : Hpa) (t : Tables) (g : Gauge) (f : Hpa) → let n = numberOf (callOf base t g (call.ReadPage f) .answer) in (n ≡ 0) ⊎ ((n ≡ 1) ⊎ (n ≡ 13))
+unfolding checksOf Page
+readpage-refuses base t g f = subst Page (sym (answered base t g (call.ReadPage f))) (by-page _ _ _)

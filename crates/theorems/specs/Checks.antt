@@ -1,0 +1,231 @@
+-- For each row of "The calls", its "Needs" as a list of checks in the paper's order. A reader ticks them off against the table; the
+-- theorem `answered` (proofs/Answers) says that a call's number is that of the first check that fails.
+use Prim.Native.Nat.{ℕ, _/_}
+use mathlib.Core.Bool.{Bool, true, false, not}
+use mathlib.Core.List.{List, [], _∷_}
+use lib.ListN.{length}
+use lib.Dec.{eqb, ltb, leb}
+use Rattle.rules.specs.Rule.{iff}
+use Rattle.units.specs.Limits.{between, controlPages, tableEntries, epochMost, keyOk}
+use Rattle.units.specs.Address.{frameOf}
+use Rattle.units.specs.Level.{levelOk, gpaFits}
+use Rattle.units.specs.declared.address.Hpa.{Hpa}
+use Rattle.units.specs.declared.address.Gpa.{Gpa}
+use Rattle.units.specs.declared.address.Pfn.{Pfn}
+use Rattle.gauge.specs.Marks.{marksOk}
+use Rattle.gauge.specs.declared.Gauge.{Gauge}
+use Rattle.stock.specs.Bits.{inUse, lowestUnused, onLowest}
+use Rattle.ledger.specs.Codes.{NDA, TDR, EPT, ASSIGNED, CONFIGURED, BLOCKED-LIFE, TEARDOWN, UNINITIALIZED, INITIALIZED, RUNNABLE, FREE, NL-MAPPED, PENDING, NL-BLOCKED, BLOCKED, PENDING-BLOCKED}
+use Rattle.ledger.specs.Range.{lentOk}
+use Rattle.ledger.specs.Sizes.{tablesOf}
+use Rattle.ledger.specs.Tables.{Tables, frameAt, domainAt, entryAt}
+use Rattle.ledger.specs.declared.words.Entry.{Entry}
+use Rattle.walk.specs.Walk.{ownFrame, onWalk}
+use Rattle.walk.specs.declared.Walk.{Walk}
+use Rattle.calls.specs.declared.Call.{Call}
+use Rattle.calls.specs.declared.Call.the-variants as call
+use Rattle.plan.specs.Lookup.{onPlace, rootIn}
+use Rattle.plan.specs.Domains.{keyUnused}
+use Rattle.plan.specs.Entries.{walkOf, isTracked, tableEmpty}
+use Rattle.plan.specs.declared.lookup.Found.{Found}
+use Rattle.theorems.specs.Order.{tables, marks, operand, domain, record′, lifecycle, pages, opState, offered, key, stopped, foreign, entry, untracked, frame, remain, stock, epoch, count, Check, check}
+
+-- ---- the words of the table
+-- an hpa is one of the window's, and the frame that it then names
+unfoldable pub inWindow : Hpa → ℕ → Hpa → Bool
+inWindow base frames hpa = onPlace (frameOf base frames hpa) false λ n. true
+
+unfoldable pub named : Hpa → ℕ → Hpa → Pfn
+named base frames hpa = onPlace (frameOf base frames hpa) (record { 0 = 0 }) λ n. n
+
+-- the domain that the TDR n names
+abbrev pub domainOf : Tables → Pfn → Found
+domainOf t n = record {
+  tdr = n;
+  rec = frameAt (t .frames) n .number;
+  root = rootIn t (frameAt (t .frames) n .number);
+  dom = domainAt (t .domains) (frameAt (t .frames) n .number);
+}
+
+abbrev pub kindIs : Tables → Pfn → ℕ → Bool
+kindIs t n k = eqb (frameAt (t .frames) n .kind) k
+
+-- how a walk ended, and the entry that it arrived at
+unfoldable pub goesOn : Walk → Bool
+goesOn w = onWalk w (λ l s. false) true λ b i. true
+
+unfoldable pub follows : Walk → Bool
+follows w = onWalk w (λ l s. true) false λ b i. true
+
+unfoldable pub arrived : Tables → Walk → Entry
+arrived t w = onWalk w (λ l s. entryAt (t .entries) 0 0) (entryAt (t .entries) 0 0) (entryAt (t .entries))
+
+-- ---- checks that several rows share, and what comes after them
+abbrev pub spot : Hpa → Tables → Hpa → Gpa → ℕ → ℕ → List Check → List Check
+spot base t d gpa level least rest =
+    check operand (inWindow base (length (t .frames)) d)
+    ∷ check operand (gpaFits gpa level)
+    ∷ check operand (levelOk least level)
+    ∷ rest
+
+abbrev pub isDomain : Tables → Pfn → List Check → List Check
+isDomain t n rest = check domain (kindIs t n TDR) ∷ check record′ (inUse (t .stock) (domainOf t n .root)) ∷ rest
+
+abbrev pub built : Tables → Pfn → ℕ → ℕ → List Check → List Check
+built t n least most rest =
+    isDomain t n (
+    check lifecycle (eqb (domainOf t n .dom .life) CONFIGURED)
+    ∷ check pages (eqb (domainOf t n .dom .listed) controlPages)
+    ∷ check opState (between least (domainOf t n .dom .op) most)
+    ∷ rest)
+
+abbrev pub live : Tables → Pfn → List Check → List Check
+live t n rest = built t n INITIALIZED RUNNABLE rest
+
+abbrev pub walked : Walk → List Check → List Check
+walked w rest = check stopped (goesOn w) ∷ check foreign (follows w) ∷ rest
+
+abbrev pub reached : Tables → Found → Gpa → ℕ → ℕ → ℕ → (Entry → List Check) → List Check
+reached t x gpa level least most rest =
+    walked (walkOf t x gpa level) (
+    check entry (between least (arrived t (walkOf t x gpa level) .state) most)
+    ∷ rest (arrived t (walkOf t x gpa level)))
+
+abbrev pub own : Tables → Found → Entry → List Check → List Check
+own t x e rest = check frame (ownFrame (t .frames) (t .stock) (x .tdr) e) ∷ rest
+
+abbrev pub room : Tables → Found → List Check
+room t x = check count (ltb (x .dom .children) (length (t .frames))) ∷ []
+
+abbrev pub hasChild : Found → List Check
+hasChild x = check count (not (eqb (x .dom .children) 0)) ∷ []
+
+-- ---- the rows
+module _ (base : Hpa) (t : Tables) where
+  abbrev pub window : Hpa → Pfn
+  window hpa = named base (length (t .frames)) hpa
+
+  abbrev pub inside : Hpa → List Check → List Check
+  inside hpa rest = check operand (inWindow base (length (t .frames)) hpa) ∷ rest
+
+  abbrev pub domainAtHpa : Hpa → Found
+  domainAtHpa d = domainOf t (window d)
+
+  -- reclaim of a TDR, and of another frame: "an owner's or a TDR F's 14, 3, 9, an EPT's table's or the count's 14"
+  abbrev pub inTeardown : Pfn → List Check → List Check
+  inTeardown n rest =
+      check record′ (kindIs t n TDR)
+      ∷ check record′ (inUse (t .stock) (domainOf t n .root))
+      ∷ check lifecycle (eqb (domainOf t n .dom .life) TEARDOWN)
+      ∷ rest
+
+  abbrev pub ofTdr : Pfn → List Check
+  ofTdr n = inTeardown n (check remain (eqb (domainOf t n .dom .children) 0) ∷ [])
+
+  abbrev pub ofChild : Pfn → List Check
+  ofChild n =
+      inTeardown (frameAt (t .frames) n .owner) (
+      check count (iff (kindIs t n EPT) (inUse (t .stock) (frameAt (t .frames) n .number)) true)
+      ∷ hasChild (domainOf t (frameAt (t .frames) n .owner)))
+
+  unfoldable pub checksOf : Call → List Check
+  checksOf (call.Create f k) =
+      inside f (
+      check operand (keyOk k)
+      ∷ check offered (kindIs t (window f) NDA)
+      ∷ check key (keyUnused t (tablesOf (length (t .domains)) (length (t .entries))) k)
+      ∷ check stock (onLowest (lowestUnused (t .stock) (tablesOf (length (t .domains)) (length (t .entries))) (length (t .entries) / tableEntries)) false λ b. true)
+      ∷ [])
+  checksOf (call.KeyConfig d) = inside d (isDomain t (window d) (check lifecycle (eqb (domainAtHpa d .dom .life) ASSIGNED) ∷ []))
+  checksOf (call.AddCx d f) =
+      inside d (
+      inside f (
+      isDomain t (window d) (
+      check lifecycle (eqb (domainAtHpa d .dom .life) CONFIGURED)
+      ∷ check pages (ltb (domainAtHpa d .dom .listed) controlPages)
+      ∷ check offered (kindIs t (window f) NDA)
+      ∷ room t (domainAtHpa d))))
+  checksOf (call.Init d) = inside d (built t (window d) UNINITIALIZED UNINITIALIZED [])
+  checksOf (call.SeptAdd d gpa level f) =
+      spot base t d gpa level 1 (
+      inside f (
+      live t (window d) (
+      check offered (kindIs t (window f) NDA)
+      ∷ reached t (domainAtHpa d) gpa level FREE FREE λ e.
+      check stock (onLowest (lowestUnused (t .stock) 0 (tablesOf (length (t .domains)) (length (t .entries)))) false λ b. true)
+      ∷ room t (domainAtHpa d))))
+  checksOf (call.PageAdd d gpa f) =
+      spot base t d gpa 0 0 (
+      inside f (
+      built t (window d) INITIALIZED INITIALIZED (
+      check offered (kindIs t (window f) NDA)
+      ∷ reached t (domainAtHpa d) gpa 0 FREE FREE λ e. room t (domainAtHpa d))))
+  checksOf (call.Finalize d) = inside d (built t (window d) INITIALIZED INITIALIZED [])
+  checksOf (call.PageAug d gpa f) =
+      spot base t d gpa 0 0 (
+      inside f (
+      built t (window d) RUNNABLE RUNNABLE (
+      check offered (kindIs t (window f) NDA)
+      ∷ reached t (domainAtHpa d) gpa 0 FREE FREE λ e. room t (domainAtHpa d))))
+  checksOf (call.Block d gpa level) =
+      spot base t d gpa level 0 (
+      live t (window d) (
+      reached t (domainAtHpa d) gpa level NL-MAPPED PENDING λ e.
+      own t (domainAtHpa d) e []))
+  checksOf (call.Track d) = inside d (live t (window d) (check epoch (ltb (domainAtHpa d .dom .epoch) epochMost) ∷ []))
+  checksOf (call.Unblock d gpa level) =
+      spot base t d gpa level 0 (
+      live t (window d) (
+      reached t (domainAtHpa d) gpa level NL-BLOCKED PENDING-BLOCKED λ e.
+      check untracked (isTracked t (e .frame) (domainAtHpa d))
+      ∷ own t (domainAtHpa d) e []))
+  checksOf (call.PageRemove d gpa) =
+      spot base t d gpa 0 0 (
+      live t (window d) (
+      reached t (domainAtHpa d) gpa 0 BLOCKED PENDING-BLOCKED λ e.
+      check untracked (isTracked t (e .frame) (domainAtHpa d))
+      ∷ own t (domainAtHpa d) e (hasChild (domainAtHpa d))))
+  checksOf (call.SeptRemove d gpa level) =
+      spot base t d gpa level 1 (
+      live t (window d) (
+      reached t (domainAtHpa d) gpa level NL-BLOCKED NL-BLOCKED λ e.
+      check untracked (isTracked t (e .frame) (domainAtHpa d))
+      ∷ own t (domainAtHpa d) e (
+      check remain (tableEmpty t (frameAt (t .frames) (e .frame) .number))
+      ∷ hasChild (domainAtHpa d))))
+  checksOf (call.FlushDone d) = inside d (isDomain t (window d) (check lifecycle (leb (domainAtHpa d .dom .life) CONFIGURED) ∷ []))
+  checksOf (call.KeyFree d) = inside d (isDomain t (window d) (check lifecycle (eqb (domainAtHpa d .dom .life) BLOCKED-LIFE) ∷ []))
+  checksOf (call.Reclaim f) =
+      inside f (
+      check domain (not (kindIs t (window f) NDA))
+      ∷ iff (kindIs t (window f) TDR) (ofTdr (window f)) (ofChild (window f)))
+  checksOf (call.ReadPage f) = inside f []
+  checksOf (call.ReadEntry d gpa level) = spot base t d gpa level 0 (live t (window d) (walked (walkOf t (domainAtHpa d) gpa level) []))
+
+-- the calls that read something out where they are accepted
+unfoldable pub reads : Call → Bool
+reads (call.Create f k) = false
+reads (call.KeyConfig d) = false
+reads (call.AddCx d f) = false
+reads (call.Init d) = false
+reads (call.SeptAdd d gpa level f) = false
+reads (call.PageAdd d gpa f) = false
+reads (call.Finalize d) = false
+reads (call.PageAug d gpa f) = false
+reads (call.Block d gpa level) = false
+reads (call.Track d) = false
+reads (call.Unblock d gpa level) = false
+reads (call.PageRemove d gpa) = false
+reads (call.SeptRemove d gpa level) = false
+reads (call.FlushDone d) = false
+reads (call.KeyFree d) = false
+reads (call.Reclaim f) = false
+reads (call.ReadPage f) = true
+reads (call.ReadEntry d gpa level) = true
+
+-- answer 13 first, for every call
+abbrev pub allChecks : Hpa → Tables → Gauge → Call → List Check
+allChecks base t g c =
+    check tables (lentOk base t)
+    ∷ check marks (marksOk (g .raise) (g .clear) (length (t .frames)))
+    ∷ checksOf base t c
