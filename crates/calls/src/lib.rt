@@ -1,7 +1,8 @@
 // The host calls of document 01 by value, and what the module answers to them.
 ghost use mathlib.Core.Path.{_≡_};
 ghost use Rattle.calls.specs.Answers.{valuesOf};
-use units::address::{Gpa, Hpa};
+use units::address::Gpa;
+use units::address::Hpa;
 
 // D is the domain's TDR, F a frame; operands in the order of the paper's table.
 pub enum Call {
@@ -68,10 +69,31 @@ pub fn values_of(a: Answer) -> Values
 {
     match a {
         Answer::Done => plain(0),
-        Answer::Page(kind, owner) => Values { number: 0, kind, owner, level: 0, state: 0, hpa: Hpa(0) },
-        Answer::Entry(level, state, hpa) => Values { number: 0, kind: 0, owner: Hpa(0), level, state, hpa },
+        Answer::Page(kind, owner) => Values {
+            number: 0,
+            kind,
+            owner,
+            level: 0,
+            state: 0,
+            hpa: Hpa(0),
+        },
+        Answer::Entry(level, state, hpa) => Values {
+            number: 0,
+            kind: 0,
+            owner: Hpa(0),
+            level,
+            state,
+            hpa,
+        },
         Answer::No(number, _) => plain(number),
-        Answer::Stop(number, level, state) => Values { number, kind: 0, owner: Hpa(0), level, state, hpa: Hpa(0) },
+        Answer::Stop(number, level, state) => Values {
+            number,
+            kind: 0,
+            owner: Hpa(0),
+            level,
+            state,
+            hpa: Hpa(0),
+        },
     }
 }
 
@@ -79,5 +101,12 @@ pub fn values_of(a: Answer) -> Values
 fn plain(number: u64) -> Values
     ensures { λ r. ⌜ r ≡ valuesOf (Answer.No number 0) ⌝ }
 {
-    Values { number, kind: 0, owner: Hpa(0), level: 0, state: 0, hpa: Hpa(0) }
+    Values {
+        number,
+        kind: 0,
+        owner: Hpa(0),
+        level: 0,
+        state: 0,
+        hpa: Hpa(0),
+    }
 }

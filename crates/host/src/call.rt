@@ -3,9 +3,13 @@ ghost use mathlib.Core.Path.{_≡_};
 ghost use Rattle.ledger.specs.Tables.{lent};
 ghost use Rattle.host.specs.Calls.{planOf, outcome, gaugeAfter, ruleOf, callOf};
 use crate::carry;
-use calls::{Answer, Call};
+use calls::Answer;
+use calls::Call;
 use gauge::Gauge;
-use ledger::codes::{INITIALIZED, MAPPED, PENDING, RUNNABLE};
+use ledger::codes::INITIALIZED;
+use ledger::codes::MAPPED;
+use ledger::codes::PENDING;
+use ledger::codes::RUNNABLE;
 use ledger::count;
 use ledger::range;
 use plan::domain;
@@ -20,7 +24,14 @@ pub struct Reply {
     pub gauge: Gauge,
 }
 
-fn plan_of(base: Hpa, frames: &[u64], domains: &[u64], stock: &[u64], entries: &[u32], c: Call) -> Plan
+fn plan_of(
+    base: Hpa,
+    frames: &[u64],
+    domains: &[u64],
+    stock: &[u64],
+    entries: &[u32],
+    c: Call,
+) -> Plan
     ensures { λ r. ⌜ r ≡ planOf base (lent (now (frames .entry)) (now (domains .entry)) (now (stock .entry)) (now (entries .entry))) c ⌝ }
 {
     match c {
@@ -28,20 +39,96 @@ fn plan_of(base: Hpa, frames: &[u64], domains: &[u64], stock: &[u64], entries: &
         Call::KeyConfig(d) => domain::plan_keyconfig(base, frames, domains, stock, entries, d),
         Call::AddCx(d, f) => domain::plan_addcx(base, frames, domains, stock, entries, d, f),
         Call::Init(d) => domain::plan_init(base, frames, domains, stock, entries, d),
-        Call::SeptAdd(d, gpa, level, f) => tree::plan_septadd(base, frames, domains, stock, entries, d, gpa, level, f),
-        Call::PageAdd(d, gpa, f) => tree::plan_page(base, frames, domains, stock, entries, d, gpa, f, INITIALIZED, MAPPED),
+        Call::SeptAdd(d, gpa, level, f) => tree::plan_septadd(
+            base,
+            frames,
+            domains,
+            stock,
+            entries,
+            d,
+            gpa,
+            level,
+            f,
+        ),
+        Call::PageAdd(d, gpa, f) => tree::plan_page(
+            base,
+            frames,
+            domains,
+            stock,
+            entries,
+            d,
+            gpa,
+            f,
+            INITIALIZED,
+            MAPPED,
+        ),
         Call::Finalize(d) => domain::plan_finalize(base, frames, domains, stock, entries, d),
-        Call::PageAug(d, gpa, f) => tree::plan_page(base, frames, domains, stock, entries, d, gpa, f, RUNNABLE, PENDING),
-        Call::Block(d, gpa, level) => tree::plan_block(base, frames, domains, stock, entries, d, gpa, level),
+        Call::PageAug(d, gpa, f) => tree::plan_page(
+            base,
+            frames,
+            domains,
+            stock,
+            entries,
+            d,
+            gpa,
+            f,
+            RUNNABLE,
+            PENDING,
+        ),
+        Call::Block(d, gpa, level) => tree::plan_block(
+            base,
+            frames,
+            domains,
+            stock,
+            entries,
+            d,
+            gpa,
+            level,
+        ),
         Call::Track(d) => domain::plan_track(base, frames, domains, stock, entries, d),
-        Call::Unblock(d, gpa, level) => tree::plan_unblock(base, frames, domains, stock, entries, d, gpa, level),
-        Call::PageRemove(d, gpa) => tree::plan_pageremove(base, frames, domains, stock, entries, d, gpa),
-        Call::SeptRemove(d, gpa, level) => tree::plan_septremove(base, frames, domains, stock, entries, d, gpa, level),
+        Call::Unblock(d, gpa, level) => tree::plan_unblock(
+            base,
+            frames,
+            domains,
+            stock,
+            entries,
+            d,
+            gpa,
+            level,
+        ),
+        Call::PageRemove(d, gpa) => tree::plan_pageremove(
+            base,
+            frames,
+            domains,
+            stock,
+            entries,
+            d,
+            gpa,
+        ),
+        Call::SeptRemove(d, gpa, level) => tree::plan_septremove(
+            base,
+            frames,
+            domains,
+            stock,
+            entries,
+            d,
+            gpa,
+            level,
+        ),
         Call::FlushDone(d) => domain::plan_flushdone(base, frames, domains, stock, entries, d),
         Call::KeyFree(d) => domain::plan_keyfree(base, frames, domains, stock, entries, d),
         Call::Reclaim(f) => page::plan_reclaim(base, frames, domains, stock, entries, f),
         Call::ReadPage(f) => page::plan_readpage(base, frames, domains, stock, entries, f),
-        Call::ReadEntry(d, gpa, level) => tree::plan_readentry(base, frames, domains, stock, entries, d, gpa, level),
+        Call::ReadEntry(d, gpa, level) => tree::plan_readentry(
+            base,
+            frames,
+            domains,
+            stock,
+            entries,
+            d,
+            gpa,
+            level,
+        ),
     }
 }
 
@@ -57,7 +144,15 @@ fn gauge_after(frames: &[u64], g: Gauge, a: Answer) -> Gauge
 }
 
 // The call's own rule, without answer 13.
-pub fn apply_rule(base: Hpa, frames: &mut [u64], domains: &mut [u64], stock: &mut [u64], entries: &mut [u32], g: Gauge, c: Call) -> Reply
+pub fn apply_rule(
+    base: Hpa,
+    frames: &mut [u64],
+    domains: &mut [u64],
+    stock: &mut [u64],
+    entries: &mut [u32],
+    g: Gauge,
+    c: Call,
+) -> Reply
     ensures { λ r. ⌜ outcome (r .answer) (lent (now (frames .exit)) (now (domains .exit)) (now (stock .exit)) (now (entries .exit))) (r .gauge) ≡ ruleOf base (lent (now (frames .entry)) (now (domains .entry)) (now (stock .entry)) (now (entries .entry))) g c ⌝ }
 {
     let p = plan_of(base, frames, domains, stock, entries, c);
@@ -67,14 +162,28 @@ pub fn apply_rule(base: Hpa, frames: &mut [u64], domains: &mut [u64], stock: &mu
 }
 
 // Any call on any lent tables and gauge.
-pub fn answer_call(base: Hpa, frames: &mut [u64], domains: &mut [u64], stock: &mut [u64], entries: &mut [u32], g: Gauge, c: Call) -> Reply
+pub fn answer_call(
+    base: Hpa,
+    frames: &mut [u64],
+    domains: &mut [u64],
+    stock: &mut [u64],
+    entries: &mut [u32],
+    g: Gauge,
+    c: Call,
+) -> Reply
     ensures { λ r. ⌜ outcome (r .answer) (lent (now (frames .exit)) (now (domains .exit)) (now (stock .exit)) (now (entries .exit))) (r .gauge) ≡ callOf base (lent (now (frames .entry)) (now (domains .entry)) (now (stock .entry)) (now (entries .entry))) g c ⌝ }
 {
     if !range::lent_ok(base, frames, domains, stock, entries) {
-        return Reply { answer: Answer::No(13, 0), gauge: g };
+        return Reply {
+            answer: Answer::No(13, 0),
+            gauge: g,
+        };
     }
     if !gauge::marks_ok(g.raise, g.clear, frames.len() as u64) {
-        return Reply { answer: Answer::No(13, 0), gauge: g };
+        return Reply {
+            answer: Answer::No(13, 0),
+            gauge: g,
+        };
     }
     apply_rule(base, frames, domains, stock, entries, g, c)
 }

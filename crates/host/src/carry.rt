@@ -4,7 +4,12 @@ ghost use Rattle.ledger.specs.Tables.{lent};
 ghost use Rattle.host.specs.Carry.{afterFrame, afterPage, afterDomain, afterUse, afterRecord, afterBlock, afterEntry, carriedOut, carried};
 use calls::Answer;
 use ledger::tables;
-use plan::edit::{DomainEdit, EntryEdit, FrameEdit, PageEdit, Plan, StockEdit};
+use plan::edit::DomainEdit;
+use plan::edit::EntryEdit;
+use plan::edit::FrameEdit;
+use plan::edit::PageEdit;
+use plan::edit::Plan;
+use plan::edit::StockEdit;
 use stock::bits;
 use stock::wipe;
 
@@ -75,7 +80,13 @@ fn apply_block(entries: &mut [u32], e: StockEdit)
     }
 }
 
-pub fn carry(frames: &mut [u64], domains: &mut [u64], stock: &mut [u64], entries: &mut [u32], p: Plan) -> Answer
+pub fn carry(
+    frames: &mut [u64],
+    domains: &mut [u64],
+    stock: &mut [u64],
+    entries: &mut [u32],
+    p: Plan,
+) -> Answer
     ensures { λ r. ⌜ carriedOut r (lent (now (frames .exit)) (now (domains .exit)) (now (stock .exit)) (now (entries .exit))) ≡ carried (lent (now (frames .entry)) (now (domains .entry)) (now (stock .entry)) (now (entries .entry))) p ⌝ }
 {
     match p {

@@ -12,29 +12,66 @@ use stock::wipe;
 use units::address::Hpa;
 
 // A fresh start. It reads no lent word.
-pub fn reset(base: Hpa, frames: &mut [u64], domains: &mut [u64], stock: &mut [u64], entries: &mut [u32], g: Gauge) -> Reply
+pub fn reset(
+    base: Hpa,
+    frames: &mut [u64],
+    domains: &mut [u64],
+    stock: &mut [u64],
+    entries: &mut [u32],
+    g: Gauge,
+) -> Reply
     ensures { λ r. ⌜ outcome (r .answer) (lent (now (frames .exit)) (now (domains .exit)) (now (stock .exit)) (now (entries .exit))) (r .gauge) ≡ resetOf base (lent (now (frames .entry)) (now (domains .entry)) (now (stock .entry)) (now (entries .entry))) g ⌝ }
 {
-    if !sizes::sizes_ok(base, frames.len(), domains.len(), stock.len(), entries.len()) {
-        return Reply { answer: Answer::No(13, 0), gauge: g };
+    if !sizes::sizes_ok(
+        base,
+        frames.len(),
+        domains.len(),
+        stock.len(),
+        entries.len(),
+    ) {
+        return Reply {
+            answer: Answer::No(13, 0),
+            gauge: g,
+        };
     }
     wipe::wipe_words(frames);
     wipe::wipe_words(domains);
     wipe::wipe_words(stock);
     wipe::wipe_entries(entries);
-    Reply { answer: Answer::Done, gauge: gauge::fresh_gauge() }
+    Reply {
+        answer: Answer::Done,
+        gauge: gauge::fresh_gauge(),
+    }
 }
 
 // The marks, raise first. The old gauge is not read.
-pub fn set_marks(base: Hpa, frames: &[u64], domains: &[u64], stock: &[u64], entries: &[u32], g: Gauge, raise: f64, clear: f64) -> Reply
+pub fn set_marks(
+    base: Hpa,
+    frames: &[u64],
+    domains: &[u64],
+    stock: &[u64],
+    entries: &[u32],
+    g: Gauge,
+    raise: f64,
+    clear: f64,
+) -> Reply
     ensures { λ r. ⌜ outcome (r .answer) (lent (now (frames .entry)) (now (domains .entry)) (now (stock .entry)) (now (entries .entry))) (r .gauge) ≡ marksOf base (lent (now (frames .entry)) (now (domains .entry)) (now (stock .entry)) (now (entries .entry))) g raise clear ⌝ }
 {
     if !range::lent_ok(base, frames, domains, stock, entries) {
-        return Reply { answer: Answer::No(13, 0), gauge: g };
+        return Reply {
+            answer: Answer::No(13, 0),
+            gauge: g,
+        };
     }
     if !gauge::marks_ok(raise, clear, frames.len() as u64) {
-        return Reply { answer: Answer::No(1, 0), gauge: g };
+        return Reply {
+            answer: Answer::No(1, 0),
+            gauge: g,
+        };
     }
     let used = count::used_frames(frames);
-    Reply { answer: Answer::Done, gauge: gauge::with_marks(raise, clear, used, frames.len() as u64) }
+    Reply {
+        answer: Answer::Done,
+        gauge: gauge::with_marks(raise, clear, used, frames.len() as u64),
+    }
 }

@@ -1,8 +1,8 @@
 // The lent tables: what each word says, how it is read and written, and when it is in range (answer 13). docs/TABLES.md has the
 // layout for those who lend them.
 pub mod codes;
-pub mod words;
-pub mod tables;
 pub mod count;
-pub mod sizes;
 pub mod range;
+pub mod sizes;
+pub mod tables;
+pub mod words;

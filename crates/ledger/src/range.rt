@@ -2,15 +2,26 @@
 ghost use mathlib.Core.Path.{_≡_};
 ghost use Rattle.ledger.specs.Tables.{lent};
 ghost use Rattle.ledger.specs.Range.{frameLimits, frameOk, framesOk, entryOk, entriesOk, pageOk, pagesOk, domainOk, recordOk, blockOk, blocksOk, lentOk};
-use crate::codes::{EPT, FREE, NDA, PENDING_BLOCKED, REG, RUNNABLE, TDCX, TDR, TEARDOWN};
+use crate::codes::EPT;
+use crate::codes::FREE;
+use crate::codes::NDA;
+use crate::codes::PENDING_BLOCKED;
+use crate::codes::REG;
+use crate::codes::RUNNABLE;
+use crate::codes::TDCX;
+use crate::codes::TDR;
+use crate::codes::TEARDOWN;
 use crate::sizes;
 use crate::sizes::Sizes;
 use crate::tables;
 use crate::words::Domain;
 use stock::bits;
-use units::address::{Hpa, Pfn};
+use units::address::Hpa;
+use units::address::Pfn;
 use units::limits;
-use units::limits::{CONTROL_PAGES, EPOCH_MOST, TABLE_ENTRIES};
+use units::limits::CONTROL_PAGES;
+use units::limits::EPOCH_MOST;
+use units::limits::TABLE_ENTRIES;
 
 // What each number of a frame of a type stays below: 1 where the type lacks it, so that it holds 0.
 pub struct FrameLimits {
@@ -23,21 +34,45 @@ fn frame_limits(s: Sizes, kind: u64) -> FrameLimits
     ensures { λ r. ⌜ r ≡ frameLimits s kind ⌝ }
 {
     if kind == NDA {
-        return FrameLimits { owner: 1, number: 1, epoch: 1 };
+        return FrameLimits {
+            owner: 1,
+            number: 1,
+            epoch: 1,
+        };
     }
     if kind == TDR {
-        return FrameLimits { owner: 1, number: s.records as u64, epoch: 1 };
+        return FrameLimits {
+            owner: 1,
+            number: s.records as u64,
+            epoch: 1,
+        };
     }
     if kind == TDCX {
-        return FrameLimits { owner: s.frames as u64, number: 1, epoch: 1 };
+        return FrameLimits {
+            owner: s.frames as u64,
+            number: 1,
+            epoch: 1,
+        };
     }
     if kind == EPT {
-        return FrameLimits { owner: s.frames as u64, number: s.tables as u64, epoch: EPOCH_MOST + 1 };
+        return FrameLimits {
+            owner: s.frames as u64,
+            number: s.tables as u64,
+            epoch: EPOCH_MOST + 1,
+        };
     }
     if kind == REG {
-        return FrameLimits { owner: s.frames as u64, number: 1, epoch: EPOCH_MOST + 1 };
+        return FrameLimits {
+            owner: s.frames as u64,
+            number: 1,
+            epoch: EPOCH_MOST + 1,
+        };
     }
-    FrameLimits { owner: 0, number: 0, epoch: 0 }
+    FrameLimits {
+        owner: 0,
+        number: 0,
+        epoch: 0,
+    }
 }
 
 fn frame_ok(s: Sizes, frames: &[u64], frame: Pfn) -> bool
@@ -184,7 +219,13 @@ fn all_blocks_ok(s: Sizes, domains: &[u64], stock: &[u64], entries: &[u32]) -> b
 pub fn lent_ok(base: Hpa, frames: &[u64], domains: &[u64], stock: &[u64], entries: &[u32]) -> bool
     ensures { λ r. ⌜ r ≡ lentOk base (lent (now (frames .entry)) (now (domains .entry)) (now (stock .entry)) (now (entries .entry))) ⌝ }
 {
-    if !sizes::sizes_ok(base, frames.len(), domains.len(), stock.len(), entries.len()) {
+    if !sizes::sizes_ok(
+        base,
+        frames.len(),
+        domains.len(),
+        stock.len(),
+        entries.len(),
+    ) {
         return false;
     }
     let s = sizes::sizes_of(frames.len(), domains.len(), entries.len());

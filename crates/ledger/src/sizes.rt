@@ -2,10 +2,11 @@
 ghost use mathlib.Core.Path.{_≡_};
 ghost use Prim.Native.Nat.{_-_};
 ghost use Rattle.ledger.specs.Sizes.{tablesOf, rootOf, sizesOf, lengthsOk, sizesOk};
+use stock::bits::WORD_BITS;
 use units::address::Hpa;
 use units::limits;
-use units::limits::{RECORD_WORDS, TABLE_ENTRIES};
-use stock::bits::WORD_BITS;
+use units::limits::RECORD_WORDS;
+use units::limits::TABLE_ENTRIES;
 
 pub struct Sizes {
     pub frames: usize,

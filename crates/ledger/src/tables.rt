@@ -2,9 +2,13 @@
 ghost use mathlib.Core.Path.{_≡_};
 ghost use Rattle.ledger.specs.Tables.{frameAt, setFrame, recordWord, setRecordWord, domainAt, setDomain, pageAt, setPage, entryAt, setEntry};
 use crate::words;
-use crate::words::{Domain, Entry, Frame};
+use crate::words::Domain;
+use crate::words::Entry;
+use crate::words::Frame;
 use units::address::Pfn;
-use units::limits::{CONTROL_PAGES, RECORD_WORDS, TABLE_ENTRIES};
+use units::limits::CONTROL_PAGES;
+use units::limits::RECORD_WORDS;
+use units::limits::TABLE_ENTRIES;
 
 pub fn frame_at(frames: &[u64], frame: Pfn) -> Frame
     ensures { λ r. ⌜ r ≡ frameAt (now (frames .entry)) frame ⌝ }

@@ -41,7 +41,8 @@ pub fn pack_frame(f: Frame) -> u64
     ensures { λ r. ⌜ r ≡ frameWord f ⌝ }
 {
     let owner = f.owner;
-    f.kind % 8 + 8 * ((owner.0 as u64) % 16384 + 16384 * (f.number % 256 + 256 * (f.epoch % 549755813888)))
+    f.kind % 8
+        + 8 * ((owner.0 as u64) % 16384 + 16384 * (f.number % 256 + 256 * (f.epoch % 549755813888)))
 }
 
 pub fn unpack_domain(word: u64) -> Domain

@@ -3,19 +3,41 @@ ghost use mathlib.Core.Path.{_≡_};
 ghost use Rattle.ledger.specs.Tables.{lent};
 ghost use Rattle.plan.specs.Edits.{withCounts, withLife, withOp, withEpoch};
 ghost use Rattle.plan.specs.Domains.{become, gain, lose, keyconfigPlan, initPlan, finalizePlan, trackPlan, flushdonePlan, keyfreePlan, enlistAt, addcxPlan, otherKey, keyUnused, newRecord, createAt, createPlan};
-use crate::edit::{DomainEdit, Edit, EntryEdit, FrameEdit, PageEdit, Plan, StockEdit};
+use crate::edit::DomainEdit;
+use crate::edit::Edit;
+use crate::edit::EntryEdit;
+use crate::edit::FrameEdit;
+use crate::edit::PageEdit;
+use crate::edit::Plan;
+use crate::edit::StockEdit;
 use crate::lookup;
-use crate::lookup::{Found, Lookup, Operand};
+use crate::lookup::Found;
+use crate::lookup::Lookup;
+use crate::lookup::Operand;
 use calls::Answer;
-use ledger::codes::{ASSIGNED, BLOCKED_LIFE, CONFIGURED, INITIALIZED, NDA, RUNNABLE, TDCX, TDR, TEARDOWN, UNINITIALIZED};
+use ledger::codes::ASSIGNED;
+use ledger::codes::BLOCKED_LIFE;
+use ledger::codes::CONFIGURED;
+use ledger::codes::INITIALIZED;
+use ledger::codes::NDA;
+use ledger::codes::RUNNABLE;
+use ledger::codes::TDCX;
+use ledger::codes::TDR;
+use ledger::codes::TEARDOWN;
+use ledger::codes::UNINITIALIZED;
 use ledger::sizes;
 use ledger::tables;
-use ledger::words::{Domain, Frame};
+use ledger::words::Domain;
+use ledger::words::Frame;
 use stock::bits;
 use stock::bits::Lowest;
-use units::address::{Hpa, Pfn};
+use units::address::Hpa;
+use units::address::Pfn;
 use units::limits;
-use units::limits::{CONTROL_PAGES, EPOCH_LEAST, EPOCH_MOST, TABLE_ENTRIES};
+use units::limits::CONTROL_PAGES;
+use units::limits::EPOCH_LEAST;
+use units::limits::EPOCH_MOST;
+use units::limits::TABLE_ENTRIES;
 
 // The domain's scalars change, and nothing else.
 fn becomes(x: Found, d: Domain) -> Plan
@@ -31,7 +53,16 @@ fn becomes(x: Found, d: Domain) -> Plan
 }
 
 // The domain x gains frame n, which becomes f.
-pub fn gains(frames: usize, x: Found, n: Pfn, f: Frame, page: PageEdit, listed: u64, stock: StockEdit, entry: EntryEdit) -> Plan
+pub fn gains(
+    frames: usize,
+    x: Found,
+    n: Pfn,
+    f: Frame,
+    page: PageEdit,
+    listed: u64,
+    stock: StockEdit,
+    entry: EntryEdit,
+) -> Plan
     ensures { λ r. ⌜ r ≡ gain frames x n f page listed stock entry ⌝ }
 {
     let d = x.dom;
@@ -56,7 +87,15 @@ pub fn loses(x: Found, n: Pfn, stock: StockEdit, entry: EntryEdit) -> Plan
         return Plan::Say(Answer::No(14, 0));
     }
     Plan::Do(Edit {
-        frame: FrameEdit::Set(n, Frame { kind: NDA, owner: Pfn(0), number: 0, epoch: 0 }),
+        frame: FrameEdit::Set(
+            n,
+            Frame {
+                kind: NDA,
+                owner: Pfn(0),
+                number: 0,
+                epoch: 0,
+            },
+        ),
         page: PageEdit::Keep,
         domain: DomainEdit::Set(x.rec, with_counts(d, d.listed, d.children - 1)),
         stock,
@@ -67,28 +106,63 @@ pub fn loses(x: Found, n: Pfn, stock: StockEdit, entry: EntryEdit) -> Plan
 fn with_counts(d: Domain, listed: u64, children: u64) -> Domain
     ensures { λ r. ⌜ r ≡ withCounts d listed children ⌝ }
 {
-    Domain { key: d.key, life: d.life, op: d.op, listed, children, epoch: d.epoch }
+    Domain {
+        key: d.key,
+        life: d.life,
+        op: d.op,
+        listed,
+        children,
+        epoch: d.epoch,
+    }
 }
 
 fn with_life(d: Domain, life: u64) -> Domain
     ensures { λ r. ⌜ r ≡ withLife d life ⌝ }
 {
-    Domain { key: d.key, life, op: d.op, listed: d.listed, children: d.children, epoch: d.epoch }
+    Domain {
+        key: d.key,
+        life,
+        op: d.op,
+        listed: d.listed,
+        children: d.children,
+        epoch: d.epoch,
+    }
 }
 
 fn with_op(d: Domain, op: u64) -> Domain
     ensures { λ r. ⌜ r ≡ withOp d op ⌝ }
 {
-    Domain { key: d.key, life: d.life, op, listed: d.listed, children: d.children, epoch: d.epoch }
+    Domain {
+        key: d.key,
+        life: d.life,
+        op,
+        listed: d.listed,
+        children: d.children,
+        epoch: d.epoch,
+    }
 }
 
 fn with_epoch(d: Domain, epoch: u64) -> Domain
     ensures { λ r. ⌜ r ≡ withEpoch d epoch ⌝ }
 {
-    Domain { key: d.key, life: d.life, op: d.op, listed: d.listed, children: d.children, epoch }
+    Domain {
+        key: d.key,
+        life: d.life,
+        op: d.op,
+        listed: d.listed,
+        children: d.children,
+        epoch,
+    }
 }
 
-pub fn plan_keyconfig(base: Hpa, frames: &[u64], domains: &[u64], stock: &[u64], entries: &[u32], tdr: Hpa) -> Plan
+pub fn plan_keyconfig(
+    base: Hpa,
+    frames: &[u64],
+    domains: &[u64],
+    stock: &[u64],
+    entries: &[u32],
+    tdr: Hpa,
+) -> Plan
     ensures { λ r. ⌜ r ≡ keyconfigPlan base (lent (now (frames .entry)) (now (domains .entry)) (now (stock .entry)) (now (entries .entry))) tdr ⌝ }
 {
     match lookup::frame_operand(base, frames.len(), tdr, 0) {
@@ -106,12 +180,27 @@ pub fn plan_keyconfig(base: Hpa, frames: &[u64], domains: &[u64], stock: &[u64],
     }
 }
 
-pub fn plan_init(base: Hpa, frames: &[u64], domains: &[u64], stock: &[u64], entries: &[u32], tdr: Hpa) -> Plan
+pub fn plan_init(
+    base: Hpa,
+    frames: &[u64],
+    domains: &[u64],
+    stock: &[u64],
+    entries: &[u32],
+    tdr: Hpa,
+) -> Plan
     ensures { λ r. ⌜ r ≡ initPlan base (lent (now (frames .entry)) (now (domains .entry)) (now (stock .entry)) (now (entries .entry))) tdr ⌝ }
 {
     match lookup::frame_operand(base, frames.len(), tdr, 0) {
         Operand::Bad(k) => Plan::Say(Answer::No(1, k)),
-        Operand::Frame(n) => match lookup::find_built(frames, domains, stock, entries, n, UNINITIALIZED, UNINITIALIZED) {
+        Operand::Frame(n) => match lookup::find_built(
+            frames,
+            domains,
+            stock,
+            entries,
+            n,
+            UNINITIALIZED,
+            UNINITIALIZED,
+        ) {
             Lookup::Not(a) => Plan::Say(a),
             Lookup::Is(x) => {
                 let d = x.dom;
@@ -121,12 +210,27 @@ pub fn plan_init(base: Hpa, frames: &[u64], domains: &[u64], stock: &[u64], entr
     }
 }
 
-pub fn plan_finalize(base: Hpa, frames: &[u64], domains: &[u64], stock: &[u64], entries: &[u32], tdr: Hpa) -> Plan
+pub fn plan_finalize(
+    base: Hpa,
+    frames: &[u64],
+    domains: &[u64],
+    stock: &[u64],
+    entries: &[u32],
+    tdr: Hpa,
+) -> Plan
     ensures { λ r. ⌜ r ≡ finalizePlan base (lent (now (frames .entry)) (now (domains .entry)) (now (stock .entry)) (now (entries .entry))) tdr ⌝ }
 {
     match lookup::frame_operand(base, frames.len(), tdr, 0) {
         Operand::Bad(k) => Plan::Say(Answer::No(1, k)),
-        Operand::Frame(n) => match lookup::find_built(frames, domains, stock, entries, n, INITIALIZED, INITIALIZED) {
+        Operand::Frame(n) => match lookup::find_built(
+            frames,
+            domains,
+            stock,
+            entries,
+            n,
+            INITIALIZED,
+            INITIALIZED,
+        ) {
             Lookup::Not(a) => Plan::Say(a),
             Lookup::Is(x) => {
                 let d = x.dom;
@@ -136,12 +240,27 @@ pub fn plan_finalize(base: Hpa, frames: &[u64], domains: &[u64], stock: &[u64], 
     }
 }
 
-pub fn plan_track(base: Hpa, frames: &[u64], domains: &[u64], stock: &[u64], entries: &[u32], tdr: Hpa) -> Plan
+pub fn plan_track(
+    base: Hpa,
+    frames: &[u64],
+    domains: &[u64],
+    stock: &[u64],
+    entries: &[u32],
+    tdr: Hpa,
+) -> Plan
     ensures { λ r. ⌜ r ≡ trackPlan base (lent (now (frames .entry)) (now (domains .entry)) (now (stock .entry)) (now (entries .entry))) tdr ⌝ }
 {
     match lookup::frame_operand(base, frames.len(), tdr, 0) {
         Operand::Bad(k) => Plan::Say(Answer::No(1, k)),
-        Operand::Frame(n) => match lookup::find_built(frames, domains, stock, entries, n, INITIALIZED, RUNNABLE) {
+        Operand::Frame(n) => match lookup::find_built(
+            frames,
+            domains,
+            stock,
+            entries,
+            n,
+            INITIALIZED,
+            RUNNABLE,
+        ) {
             Lookup::Not(a) => Plan::Say(a),
             Lookup::Is(x) => {
                 let d = x.dom;
@@ -154,7 +273,14 @@ pub fn plan_track(base: Hpa, frames: &[u64], domains: &[u64], stock: &[u64], ent
     }
 }
 
-pub fn plan_flushdone(base: Hpa, frames: &[u64], domains: &[u64], stock: &[u64], entries: &[u32], tdr: Hpa) -> Plan
+pub fn plan_flushdone(
+    base: Hpa,
+    frames: &[u64],
+    domains: &[u64],
+    stock: &[u64],
+    entries: &[u32],
+    tdr: Hpa,
+) -> Plan
     ensures { λ r. ⌜ r ≡ flushdonePlan base (lent (now (frames .entry)) (now (domains .entry)) (now (stock .entry)) (now (entries .entry))) tdr ⌝ }
 {
     match lookup::frame_operand(base, frames.len(), tdr, 0) {
@@ -172,7 +298,14 @@ pub fn plan_flushdone(base: Hpa, frames: &[u64], domains: &[u64], stock: &[u64],
     }
 }
 
-pub fn plan_keyfree(base: Hpa, frames: &[u64], domains: &[u64], stock: &[u64], entries: &[u32], tdr: Hpa) -> Plan
+pub fn plan_keyfree(
+    base: Hpa,
+    frames: &[u64],
+    domains: &[u64],
+    stock: &[u64],
+    entries: &[u32],
+    tdr: Hpa,
+) -> Plan
     ensures { λ r. ⌜ r ≡ keyfreePlan base (lent (now (frames .entry)) (now (domains .entry)) (now (stock .entry)) (now (entries .entry))) tdr ⌝ }
 {
     match lookup::frame_operand(base, frames.len(), tdr, 0) {
@@ -191,7 +324,14 @@ pub fn plan_keyfree(base: Hpa, frames: &[u64], domains: &[u64], stock: &[u64], e
 }
 
 // A control page more: the state's 3, the list's 4, F's 2.
-fn enlists(frames: &[u64], domains: &[u64], stock: &[u64], entries: &[u32], x: Found, f: Pfn) -> Plan
+fn enlists(
+    frames: &[u64],
+    domains: &[u64],
+    stock: &[u64],
+    entries: &[u32],
+    x: Found,
+    f: Pfn,
+) -> Plan
     ensures { λ r. ⌜ r ≡ enlistAt (lent (now (frames .entry)) (now (domains .entry)) (now (stock .entry)) (now (entries .entry))) x f ⌝ }
 {
     let d = x.dom;
@@ -207,11 +347,33 @@ fn enlists(frames: &[u64], domains: &[u64], stock: &[u64], entries: &[u32], x: F
     }
     let tdr = x.tdr;
     let page = PageEdit::Set(x.rec, d.listed as usize, f);
-    let tdcx = Frame { kind: TDCX, owner: tdr, number: 0, epoch: 0 };
-    gains(frames.len(), x, f, tdcx, page, d.listed + 1, StockEdit::Keep, EntryEdit::Keep)
+    let tdcx = Frame {
+        kind: TDCX,
+        owner: tdr,
+        number: 0,
+        epoch: 0,
+    };
+    gains(
+        frames.len(),
+        x,
+        f,
+        tdcx,
+        page,
+        d.listed + 1,
+        StockEdit::Keep,
+        EntryEdit::Keep,
+    )
 }
 
-pub fn plan_addcx(base: Hpa, frames: &[u64], domains: &[u64], stock: &[u64], entries: &[u32], tdr: Hpa, hpa: Hpa) -> Plan
+pub fn plan_addcx(
+    base: Hpa,
+    frames: &[u64],
+    domains: &[u64],
+    stock: &[u64],
+    entries: &[u32],
+    tdr: Hpa,
+    hpa: Hpa,
+) -> Plan
     ensures { λ r. ⌜ r ≡ addcxPlan base (lent (now (frames .entry)) (now (domains .entry)) (now (stock .entry)) (now (entries .entry))) tdr hpa ⌝ }
 {
     match lookup::frame_operand(base, frames.len(), tdr, 0) {
@@ -227,7 +389,15 @@ pub fn plan_addcx(base: Hpa, frames: &[u64], domains: &[u64], stock: &[u64], ent
 }
 
 // Whether the record at a block, if it is in use and before teardown, has another key.
-fn other_key(frames: &[u64], domains: &[u64], stock: &[u64], entries: &[u32], first: usize, key: u64, block: usize) -> bool
+fn other_key(
+    frames: &[u64],
+    domains: &[u64],
+    stock: &[u64],
+    entries: &[u32],
+    first: usize,
+    key: u64,
+    block: usize,
+) -> bool
     ensures { λ r. ⌜ r ≡ otherKey (lent (now (frames .entry)) (now (domains .entry)) (now (stock .entry)) (now (entries .entry))) first key block ⌝ }
 {
     if !bits::in_use(stock, block) {
@@ -240,7 +410,14 @@ fn other_key(frames: &[u64], domains: &[u64], stock: &[u64], entries: &[u32], fi
     d.life == TEARDOWN
 }
 
-fn key_unused(frames: &[u64], domains: &[u64], stock: &[u64], entries: &[u32], first: usize, key: u64) -> bool
+fn key_unused(
+    frames: &[u64],
+    domains: &[u64],
+    stock: &[u64],
+    entries: &[u32],
+    first: usize,
+    key: u64,
+) -> bool
     ensures { λ r. ⌜ r ≡ keyUnused (lent (now (frames .entry)) (now (domains .entry)) (now (stock .entry)) (now (entries .entry))) first key ⌝ }
 {
     let mut block = first;
@@ -253,7 +430,14 @@ fn key_unused(frames: &[u64], domains: &[u64], stock: &[u64], entries: &[u32], f
     true
 }
 
-fn creates(frames: &[u64], domains: &[u64], stock: &[u64], entries: &[u32], f: Pfn, key: u64) -> Plan
+fn creates(
+    frames: &[u64],
+    domains: &[u64],
+    stock: &[u64],
+    entries: &[u32],
+    f: Pfn,
+    key: u64,
+) -> Plan
     ensures { λ r. ⌜ r ≡ createAt (lent (now (frames .entry)) (now (domains .entry)) (now (stock .entry)) (now (entries .entry))) f key ⌝ }
 {
     let fr = tables::frame_at(frames, f);
@@ -274,18 +458,41 @@ fn new_record(f: Pfn, key: u64, root: usize, rec: usize) -> Plan
     ensures { λ r. ⌜ r ≡ newRecord f key root rec ⌝ }
 {
     Plan::Do(Edit {
-        frame: FrameEdit::Set(f, Frame { kind: TDR, owner: Pfn(0), number: rec as u64, epoch: 0 }),
+        frame: FrameEdit::Set(
+            f,
+            Frame {
+                kind: TDR,
+                owner: Pfn(0),
+                number: rec as u64,
+                epoch: 0,
+            },
+        ),
         page: PageEdit::Keep,
         domain: DomainEdit::Set(
             rec,
-            Domain { key, life: ASSIGNED, op: UNINITIALIZED, listed: 0, children: 0, epoch: EPOCH_LEAST },
+            Domain {
+                key,
+                life: ASSIGNED,
+                op: UNINITIALIZED,
+                listed: 0,
+                children: 0,
+                epoch: EPOCH_LEAST,
+            },
         ),
         stock: StockEdit::Record(root, rec),
         entry: EntryEdit::Keep,
     })
 }
 
-pub fn plan_create(base: Hpa, frames: &[u64], domains: &[u64], stock: &[u64], entries: &[u32], hpa: Hpa, key: u64) -> Plan
+pub fn plan_create(
+    base: Hpa,
+    frames: &[u64],
+    domains: &[u64],
+    stock: &[u64],
+    entries: &[u32],
+    hpa: Hpa,
+    key: u64,
+) -> Plan
     ensures { λ r. ⌜ r ≡ createPlan base (lent (now (frames .entry)) (now (domains .entry)) (now (stock .entry)) (now (entries .entry))) hpa key ⌝ }
 {
     match lookup::frame_operand(base, frames.len(), hpa, 0) {

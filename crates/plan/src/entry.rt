@@ -4,7 +4,13 @@ ghost use Rattle.ledger.specs.Tables.{lent};
 ghost use Rattle.plan.specs.Entries.{walkOf, entryFor, blockedState, unblockedState, freeAt, tableEmpty};
 use crate::lookup::Found;
 use calls::Answer;
-use ledger::codes::{BLOCKED, FREE, MAPPED, NL_BLOCKED, NL_MAPPED, PENDING, PENDING_BLOCKED};
+use ledger::codes::BLOCKED;
+use ledger::codes::FREE;
+use ledger::codes::MAPPED;
+use ledger::codes::NL_BLOCKED;
+use ledger::codes::NL_MAPPED;
+use ledger::codes::PENDING;
+use ledger::codes::PENDING_BLOCKED;
 use ledger::tables;
 use ledger::words::Entry;
 use units::address::Gpa;
@@ -20,14 +26,32 @@ pub enum Reach {
 }
 
 // The walk of the domain x from its root.
-pub fn walk_of(frames: &[u64], domains: &[u64], stock: &[u64], entries: &[u32], x: Found, gpa: Gpa, level: usize) -> Walk
+pub fn walk_of(
+    frames: &[u64],
+    domains: &[u64],
+    stock: &[u64],
+    entries: &[u32],
+    x: Found,
+    gpa: Gpa,
+    level: usize,
+) -> Walk
     ensures { λ r. ⌜ r ≡ walkOf (lent (now (frames .entry)) (now (domains .entry)) (now (stock .entry)) (now (entries .entry))) x gpa level ⌝ }
 {
     walk::walk_from(frames, stock, entries, x.tdr, gpa, level, ROWS - 1, x.root)
 }
 
 // The entry of a gpa at a level, its state from `least` to `most`.
-pub fn entry_for(frames: &[u64], domains: &[u64], stock: &[u64], entries: &[u32], x: Found, gpa: Gpa, level: usize, least: u64, most: u64) -> Reach
+pub fn entry_for(
+    frames: &[u64],
+    domains: &[u64],
+    stock: &[u64],
+    entries: &[u32],
+    x: Found,
+    gpa: Gpa,
+    level: usize,
+    least: u64,
+    most: u64,
+) -> Reach
     ensures { λ r. ⌜ r ≡ entryFor (lent (now (frames .entry)) (now (domains .entry)) (now (stock .entry)) (now (entries .entry))) x gpa level least most ⌝ }
 {
     match walk_of(frames, domains, stock, entries, x, gpa, level) {
@@ -67,14 +91,27 @@ pub fn unblocked_state(state: u64) -> u64
     PENDING
 }
 
-fn free_at(frames: &[u64], domains: &[u64], stock: &[u64], entries: &[u32], block: usize, index: usize) -> bool
+fn free_at(
+    frames: &[u64],
+    domains: &[u64],
+    stock: &[u64],
+    entries: &[u32],
+    block: usize,
+    index: usize,
+) -> bool
     ensures { λ r. ⌜ r ≡ freeAt (lent (now (frames .entry)) (now (domains .entry)) (now (stock .entry)) (now (entries .entry))) block index ⌝ }
 {
     let e = tables::entry_at(entries, block, index);
     e.state == FREE
 }
 
-pub fn table_empty(frames: &[u64], domains: &[u64], stock: &[u64], entries: &[u32], block: usize) -> bool
+pub fn table_empty(
+    frames: &[u64],
+    domains: &[u64],
+    stock: &[u64],
+    entries: &[u32],
+    block: usize,
+) -> bool
     ensures { λ r. ⌜ r ≡ tableEmpty (lent (now (frames .entry)) (now (domains .entry)) (now (stock .entry)) (now (entries .entry))) block ⌝ }
 {
     let mut index = 0;

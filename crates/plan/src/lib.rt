@@ -1,8 +1,8 @@
 // Plans: what each call answers, or what it would write. A plan reads the lent tables and writes nothing, so that a refusal can't
 // change a byte.
-pub mod edit;
-pub mod lookup;
 pub mod domain;
+pub mod edit;
 pub mod entry;
-pub mod tree;
+pub mod lookup;
 pub mod page;
+pub mod tree;

@@ -4,13 +4,17 @@ ghost use lib.ListN.{length};
 ghost use Rattle.ledger.specs.Tables.{lent};
 ghost use Rattle.plan.specs.Lookup.{frameOperand, spotOperands, domainFor, builtFor};
 use calls::Answer;
-use ledger::codes::{CONFIGURED, TDR};
+use ledger::codes::CONFIGURED;
+use ledger::codes::TDR;
 use ledger::sizes;
 use ledger::tables;
 use ledger::words::Domain;
 use stock::bits;
 use units::address;
-use units::address::{Gpa, Hpa, Pfn, Place};
+use units::address::Gpa;
+use units::address::Hpa;
+use units::address::Pfn;
+use units::address::Place;
 use units::level;
 use units::limits;
 use units::limits::CONTROL_PAGES;
@@ -44,7 +48,14 @@ pub fn frame_operand(base: Hpa, frames: usize, hpa: Hpa, operand: u64) -> Operan
 }
 
 // D, a gpa and a level from `least` on.
-pub fn spot_operands(base: Hpa, frames: usize, d: Hpa, gpa: Gpa, level: usize, least: usize) -> Operand
+pub fn spot_operands(
+    base: Hpa,
+    frames: usize,
+    d: Hpa,
+    gpa: Gpa,
+    level: usize,
+    least: usize,
+) -> Operand
     ensures { λ r. ⌜ r ≡ spotOperands base frames d gpa level least ⌝ }
 {
     match frame_operand(base, frames, d, 0) {
@@ -61,7 +72,13 @@ pub fn spot_operands(base: Hpa, frames: usize, d: Hpa, gpa: Gpa, level: usize, l
     }
 }
 
-pub fn find_domain(frames: &[u64], domains: &[u64], stock: &[u64], entries: &[u32], n: Pfn) -> Lookup
+pub fn find_domain(
+    frames: &[u64],
+    domains: &[u64],
+    stock: &[u64],
+    entries: &[u32],
+    n: Pfn,
+) -> Lookup
     ensures { λ r. ⌜ r ≡ domainFor (lent (now (frames .entry)) (now (domains .entry)) (now (stock .entry)) (now (entries .entry))) n ⌝ }
 {
     let f = tables::frame_at(frames, n);
@@ -74,10 +91,23 @@ pub fn find_domain(frames: &[u64], domains: &[u64], stock: &[u64], entries: &[u3
         return Lookup::Not(Answer::No(14, 0));
     }
     let dom = tables::domain_at(domains, rec);
-    Lookup::Is(Found { tdr: n, rec, root, dom })
+    Lookup::Is(Found {
+        tdr: n,
+        rec,
+        root,
+        dom,
+    })
 }
 
-pub fn find_built(frames: &[u64], domains: &[u64], stock: &[u64], entries: &[u32], n: Pfn, least: u64, most: u64) -> Lookup
+pub fn find_built(
+    frames: &[u64],
+    domains: &[u64],
+    stock: &[u64],
+    entries: &[u32],
+    n: Pfn,
+    least: u64,
+    most: u64,
+) -> Lookup
     ensures { λ r. ⌜ r ≡ builtFor (lent (now (frames .entry)) (now (domains .entry)) (now (stock .entry)) (now (entries .entry))) n least most ⌝ }
 {
     match find_domain(frames, domains, stock, entries, n) {

@@ -3,16 +3,29 @@ ghost use mathlib.Core.Path.{_≡_};
 ghost use Rattle.ledger.specs.Tables.{lent};
 ghost use Rattle.plan.specs.Pages.{reclaimTdr, reclaimChild, reclaimAt, reclaimPlan, readpagePlan};
 use crate::domain;
-use crate::edit::{DomainEdit, Edit, EntryEdit, FrameEdit, PageEdit, Plan, StockEdit};
+use crate::edit::DomainEdit;
+use crate::edit::Edit;
+use crate::edit::EntryEdit;
+use crate::edit::FrameEdit;
+use crate::edit::PageEdit;
+use crate::edit::Plan;
+use crate::edit::StockEdit;
 use crate::lookup;
-use crate::lookup::{Found, Lookup, Operand};
+use crate::lookup::Found;
+use crate::lookup::Lookup;
+use crate::lookup::Operand;
 use calls::Answer;
-use ledger::codes::{EPT, NDA, TDCX, TDR, TEARDOWN};
+use ledger::codes::EPT;
+use ledger::codes::NDA;
+use ledger::codes::TDCX;
+use ledger::codes::TDR;
+use ledger::codes::TEARDOWN;
 use ledger::tables;
 use ledger::words::Frame;
 use stock::bits;
 use units::address;
-use units::address::{Hpa, Pfn};
+use units::address::Hpa;
+use units::address::Pfn;
 
 // A TDR in teardown without children, whose record is given back.
 fn reclaim_tdr(x: Found) -> Plan
@@ -27,7 +40,15 @@ fn reclaim_tdr(x: Found) -> Plan
     }
     let tdr = x.tdr;
     Plan::Do(Edit {
-        frame: FrameEdit::Set(tdr, Frame { kind: NDA, owner: Pfn(0), number: 0, epoch: 0 }),
+        frame: FrameEdit::Set(
+            tdr,
+            Frame {
+                kind: NDA,
+                owner: Pfn(0),
+                number: 0,
+                epoch: 0,
+            },
+        ),
         page: PageEdit::Keep,
         domain: DomainEdit::Keep,
         stock: StockEdit::Give(x.root),
@@ -36,7 +57,15 @@ fn reclaim_tdr(x: Found) -> Plan
 }
 
 // A frame of the owner x, in teardown; an EPT's table is given back.
-fn reclaim_child(frames: &[u64], domains: &[u64], stock: &[u64], entries: &[u32], x: Found, n: Pfn, f: Frame) -> Plan
+fn reclaim_child(
+    frames: &[u64],
+    domains: &[u64],
+    stock: &[u64],
+    entries: &[u32],
+    x: Found,
+    n: Pfn,
+    f: Frame,
+) -> Plan
     ensures { λ r. ⌜ r ≡ reclaimChild (lent (now (frames .entry)) (now (domains .entry)) (now (stock .entry)) (now (entries .entry))) x n f ⌝ }
 {
     let d = x.dom;
@@ -73,7 +102,14 @@ fn reclaim_at(frames: &[u64], domains: &[u64], stock: &[u64], entries: &[u32], n
     }
 }
 
-pub fn plan_reclaim(base: Hpa, frames: &[u64], domains: &[u64], stock: &[u64], entries: &[u32], hpa: Hpa) -> Plan
+pub fn plan_reclaim(
+    base: Hpa,
+    frames: &[u64],
+    domains: &[u64],
+    stock: &[u64],
+    entries: &[u32],
+    hpa: Hpa,
+) -> Plan
     ensures { λ r. ⌜ r ≡ reclaimPlan base (lent (now (frames .entry)) (now (domains .entry)) (now (stock .entry)) (now (entries .entry))) hpa ⌝ }
 {
     match lookup::frame_operand(base, frames.len(), hpa, 0) {
@@ -82,7 +118,14 @@ pub fn plan_reclaim(base: Hpa, frames: &[u64], domains: &[u64], stock: &[u64], e
     }
 }
 
-pub fn plan_readpage(base: Hpa, frames: &[u64], domains: &[u64], stock: &[u64], entries: &[u32], hpa: Hpa) -> Plan
+pub fn plan_readpage(
+    base: Hpa,
+    frames: &[u64],
+    domains: &[u64],
+    stock: &[u64],
+    entries: &[u32],
+    hpa: Hpa,
+) -> Plan
     ensures { λ r. ⌜ r ≡ readpagePlan base (lent (now (frames .entry)) (now (domains .entry)) (now (stock .entry)) (now (entries .entry))) hpa ⌝ }
 {
     match lookup::frame_operand(base, frames.len(), hpa, 0) {

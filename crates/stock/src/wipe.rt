@@ -3,7 +3,8 @@ ghost use mathlib.Core.Path.{_≡_};
 ghost use lib.ListN.{length, replicate};
 ghost use Rattle.units.specs.Limits.{recordWords, tableEntries};
 ghost use Rattle.stock.specs.Wipe.{wipedAt};
-use units::limits::{RECORD_WORDS, TABLE_ENTRIES};
+use units::limits::RECORD_WORDS;
+use units::limits::TABLE_ENTRIES;
 
 pub fn wipe_entries(part: &mut [u32])
     ensures { λ _. ⌜ now (part .exit) ≡ replicate (length (now (part .entry))) 0 ⌝ }

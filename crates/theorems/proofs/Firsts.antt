@@ -127,7 +127,7 @@ window-first base frames hpa k next e = by-place (frameOf base frames hpa) k nex
 by-spot : {r : Bool} {cs : List Check} (at : Place) (b c : Bool) (next : Pfn → Plan)
     → Numbers r (next (onPlace at (record { 0 = 0 }) λ n. n)) cs
     → Numbers r (onOperand (onOperand (onPlace at (Bad 0) Frame) Bad λ n. iff b (iff c (Frame n) (Bad 2)) (Bad 1)) (refuse 1) next)
-        (check operand (onPlace at false λ n. true) ∷ check operand b ∷ check operand c ∷ cs)
+    (check operand (onPlace at false λ n. true) ∷ check operand b ∷ check operand c ∷ cs)
 unfolding onPlace onOperand numberP firstNo iff valuesOf TellsP Tells
 by-spot (place.Outside) b c next e = record { is = refl; tells = tt }
 by-spot (place.At n) false c next e = record { is = refl; tells = tt }
@@ -137,7 +137,7 @@ by-spot (place.At n) true true next e = record { is = e .is; tells = e .tells }
 pub spot-first : {r : Bool} {cs : List Check} (base : Hpa) (frames : ℕ) (d : Hpa) (gpa : Gpa) (level least : ℕ) (next : Pfn → Plan)
     → Numbers r (next (named base frames d)) cs
     → Numbers r (onOperand (spotOperands base frames d gpa level least) (refuse 1) next)
-        (check operand (inWindow base frames d) ∷ check operand (gpaFits gpa level) ∷ check operand (levelOk least level) ∷ cs)
+    (check operand (inWindow base frames d) ∷ check operand (gpaFits gpa level) ∷ check operand (levelOk least level) ∷ cs)
 unfolding spotOperands frameOperand inWindow named
 spot-first base frames d gpa level least next e = by-spot (frameOf base frames d) (gpaFits gpa level) (levelOk least level) next e
 
@@ -168,7 +168,7 @@ owner-first t n k e = by-owner (kindIs t n TDR) (inUse (t .stock) (domainOf t n 
 
 by-state : {r : Bool} {cs : List Check} (c d f : Bool) (x : Found) (k : Found → Plan) → Numbers r (k x) cs
     → Numbers r (onLookup (iff c (iff d (iff f (Is x) (Not (answer.No 5 0))) (Not (answer.No 4 0))) (Not (answer.No 3 0))) Say k)
-        (check lifecycle c ∷ check pages d ∷ check opState f ∷ cs)
+    (check lifecycle c ∷ check pages d ∷ check opState f ∷ cs)
 unfolding onLookup numberP firstNo iff valuesOf TellsP Tells
 by-state false d f x k e = record { is = refl; tells = tt }
 by-state true false f x k e = record { is = refl; tells = tt }
@@ -207,12 +207,12 @@ by-entry false level b i e k h = record { is = refl; tells = inr refl }
 by-reach : {r : Bool} {cs : List Check} (t : Tables) (w : Walk) (level least most : ℕ) (k : ℕ → ℕ → Entry → Plan)
     → ((b i : ℕ) → Numbers r (k b i (arrived t w)) cs)
     → Numbers r
-        (onReach
-        (onWalk w (λ l s. reach.Not (answer.Stop 6 l s)) (reach.Not (answer.No 14 0)) λ b i.
-        iff (between least (entryAt (t .entries) b i .state) most) (reach.At b i (entryAt (t .entries) b i))
-        (reach.Not (answer.Stop 7 level (entryAt (t .entries) b i .state))))
-        Say k)
-        (walked w (check entry (between least (arrived t w .state) most) ∷ cs))
+    (onReach
+    (onWalk w (λ l s. reach.Not (answer.Stop 6 l s)) (reach.Not (answer.No 14 0)) λ b i.
+    iff (between least (entryAt (t .entries) b i .state) most) (reach.At b i (entryAt (t .entries) b i))
+    (reach.Not (answer.Stop 7 level (entryAt (t .entries) b i .state))))
+    Say k)
+    (walked w (check entry (between least (arrived t w .state) most) ∷ cs))
 unfolding onWalk goesOn follows arrived numberP firstNo iff valuesOf onReach TellsP Tells
 by-reach t (walk.Stopped l s) level least most k e = record { is = refl; tells = inl refl }
 by-reach t (walk.Foreign) level least most k e = record { is = refl; tells = tt }
@@ -221,7 +221,7 @@ by-reach t (walk.At b i) level least most k e = let h = by-entry (between least 
 pub reach-first : {r : Bool} {cs : List Check} (t : Tables) (x : Found) (gpa : Gpa) (level least most : ℕ) (k : ℕ → ℕ → Entry → Plan)
     → ((b i : ℕ) → Numbers r (k b i (arrived t (walkOf t x gpa level))) cs)
     → Numbers r (onReach (entryFor t x gpa level least most) Say k)
-        (walked (walkOf t x gpa level) (check entry (between least (arrived t (walkOf t x gpa level) .state) most) ∷ cs))
+    (walked (walkOf t x gpa level) (check entry (between least (arrived t (walkOf t x gpa level) .state) most) ∷ cs))
 unfolding entryFor given
 reach-first t x gpa level least most k e = by-reach t (walkOf t x gpa level) level least most k e
 

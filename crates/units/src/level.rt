@@ -3,7 +3,8 @@ ghost use mathlib.Core.Path.{_≡_};
 ghost use Rattle.units.specs.Level.{rowOf, levelOk, gpaFits, indexAt};
 use crate::address::Gpa;
 use crate::limits;
-use crate::limits::{GPA_END_BYTES, TABLE_ENTRIES};
+use crate::limits::GPA_END_BYTES;
+use crate::limits::TABLE_ENTRIES;
 
 pub struct Row {
     pub low: u64,

@@ -4,23 +4,39 @@ ghost use Rattle.units.specs.Limits.{between, baseOk, framesOk, recordsO
 use crate::address::Hpa;
 
 pub const FRAME_BYTES: u64 = 4096;
+
 pub const FRAMES_LEAST: u64 = 512;
+
 pub const FRAMES_MOST: u64 = 4096;
+
 pub const BASE_STEP_BYTES: u64 = 1073741824;
+
 pub const BASE_LEAST_BYTES: u64 = 1073741824;
+
 pub const BASE_MOST_BYTES: u64 = 70368744177664;
+
 pub const RECORDS_LEAST: u64 = 1;
+
 pub const RECORDS_MOST: u64 = 16;
+
 pub const TABLES_LEAST: u64 = 4;
+
 pub const TABLES_MOST: u64 = 64;
+
 pub const TABLE_ENTRIES: usize = 512;
+
 pub const CONTROL_PAGES: usize = 4;
 // A lent domain record: a word of scalars, and a word for each control page.
 pub const RECORD_WORDS: usize = 5;
+
 pub const KEY_LEAST: u64 = 32;
+
 pub const KEY_MOST: u64 = 47;
+
 pub const EPOCH_LEAST: u64 = 1;
+
 pub const EPOCH_MOST: u64 = 4294967295;
+
 pub const GPA_END_BYTES: u64 = 140737488355328;
 
 // Whether a number lies from `least` to `most`, both included.

@@ -1,11 +1,15 @@
 // The Secure EPT walk, from a domain's root down to the entry of a gpa at a level.
 ghost use mathlib.Core.Path.{_≡_};
 ghost use Rattle.walk.specs.Walk.{entryType, ownFrame, walkFrom};
-use ledger::codes::{EPT, NL_BLOCKED, NL_MAPPED, REG};
+use ledger::codes::EPT;
+use ledger::codes::NL_BLOCKED;
+use ledger::codes::NL_MAPPED;
+use ledger::codes::REG;
 use ledger::tables;
 use ledger::words::Entry;
 use stock::bits;
-use units::address::{Gpa, Pfn};
+use units::address::Gpa;
+use units::address::Pfn;
 use units::level;
 
 // How a walk ends: at an entry, by its block and index; stopped, with the level and state there (answer 6); or at a frame that it
@@ -48,7 +52,16 @@ pub fn own_frame(frames: &[u64], stock: &[u64], tdr: Pfn, e: Entry) -> bool
 }
 
 // The walk of the domain `tdr` to the level `want` from the block at `level`. It calls itself on the level below.
-pub fn walk_from(frames: &[u64], stock: &[u64], entries: &[u32], tdr: Pfn, gpa: Gpa, want: usize, level: usize, block: usize) -> Walk
+pub fn walk_from(
+    frames: &[u64],
+    stock: &[u64],
+    entries: &[u32],
+    tdr: Pfn,
+    gpa: Gpa,
+    want: usize,
+    level: usize,
+    block: usize,
+) -> Walk
     ensures { λ r. ⌜ r ≡ walkFrom (now (frames .entry)) (now (stock .entry)) (now (entries .entry)) tdr gpa want level block ⌝ }
 {
     let index = level::index_at(gpa, level);
@@ -63,5 +76,14 @@ pub fn walk_from(frames: &[u64], stock: &[u64], entries: &[u32], tdr: Pfn, gpa: 
         return Walk::Foreign;
     }
     let f = tables::frame_at(frames, e.frame);
-    walk_from(frames, stock, entries, tdr, gpa, want, level - 1, f.number as usize)
+    walk_from(
+        frames,
+        stock,
+        entries,
+        tdr,
+        gpa,
+        want,
+        level - 1,
+        f.number as usize,
+    )
 }

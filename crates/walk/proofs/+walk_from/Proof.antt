@@ -29,8 +29,7 @@ walk-from-below t =
 pub +walk-from-spec : {M : Type 1} → statement M
 +walk-from-spec =
     close μ-walk-from λ t.
-    walk-from-lts.spec
-    (
+    walk-from-lts.spec (
       index-at-reads.Asked,
       index-at-reads.Learnt,
       entry-at-reads.Asked,

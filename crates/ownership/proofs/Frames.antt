@@ -1,0 +1,56 @@
+-- The frames that calls write are in range, and fit their words.
+use mathlib.Core.Path.{_≡_, refl}
+use mathlib.Core.Bool.{true}
+use Prim.Native.Nat.{ℕ, _+_, _<_, _≤_}
+use native.Mathlib.Omega.{arith}
+use borrow.Author.Tests.{lt-ltb}
+use Rattle.rules.specs.Rule.{iff}
+use Rattle.rules.proofs.Steps.{both-left, both-right}
+use Rattle.units.specs.Limits.{epochMost}
+use Rattle.ledger.specs.Codes.{EPT, REG}
+use Rattle.ledger.specs.Range.{frameLimits}
+use Rattle.ledger.specs.Tables.{Tables, frameAt}
+use Rattle.ledger.specs.Words.{FrameFits}
+use Rattle.ledger.specs.declared.sizes.Sizes.{Sizes}
+use Rattle.ledger.specs.declared.words.Frame.{Frame}
+use Rattle.plan.specs.Edits.{freed, newTdr, newTdcx, newEpt, newReg, withFrameEpoch}
+use Rattle.ownership.specs.Owned.{kind}
+use Rattle.ownership.specs.Reached.{frame, view}
+use Rattle.ownership.proofs.Ranged.{both-of, frameGood}
+
+module _ (z : Sizes) where
+  pub freed-good : frameGood z freed ≡ true
+  unfolding frameLimits iff
+  freed-good = refl
+
+  pub tdr-good : (r : ℕ) → r < z .records → frameGood z (newTdr r) ≡ true
+  unfolding frameLimits iff
+  tdr-good r h = rw (lt-ltb r (z .records) h) refl
+
+  pub tdcx-good : (d : ℕ) → d < z .frames → frameGood z (newTdcx (frame d)) ≡ true
+  unfolding frameLimits iff
+  tdcx-good d h = rw (lt-ltb d (z .frames) h) refl
+
+  pub ept-good : (d n : ℕ) → d < z .frames → n < z .tables → frameGood z (newEpt (frame d) n) ≡ true
+  unfolding frameLimits iff
+  ept-good d n h k = rw (lt-ltb d (z .frames) h, lt-ltb n (z .tables) k) refl
+
+  pub reg-good : (d : ℕ) → d < z .frames → frameGood z (newReg (frame d)) ≡ true
+  unfolding frameLimits iff
+  reg-good d h = rw (lt-ltb d (z .frames) h) refl
+
+  pub ept-epoch : frameLimits z EPT .epoch ≡ epochMost + 1
+  unfolding frameLimits iff
+  ept-epoch = refl
+
+  pub reg-epoch : frameLimits z REG .epoch ≡ epochMost + 1
+  unfolding frameLimits iff
+  reg-epoch = refl
+
+  -- a blocked frame
+  pub dated-good : (f : Frame) (e : ℕ) → frameLimits z (f .kind) .epoch ≡ epochMost + 1 → e ≤ epochMost → frameGood z f ≡ true → frameGood z (withFrameEpoch f e) ≡ true
+  dated-good f e k h g = both-of _ _ (both-left _ _ g) (both-of _ _ (both-left _ _ (both-right _ _ g)) (lt-ltb e (frameLimits z (f .kind) .epoch) (omega arith)))
+
+pub dated-fits : (t : Tables) (f e : ℕ) → e ≤ epochMost → FrameFits (withFrameEpoch (view t .frame f) e)
+unfolding frameAt
+dated-fits t f e h = record { kind = omega arith; owner = omega arith; number = omega arith; epoch = omega arith }

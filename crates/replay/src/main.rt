@@ -1,0 +1,314 @@
+// Replays a script: calls on standard input, a line each; their answers on standard output. Only reading, writing and the loops over them
+// stand here: what a byte does and what a line answers is proved in the crate session.
+use gauge::Gauge;
+use host::setting;
+use ledger::count;
+use script::answer;
+use session::Feed;
+use session::Turn;
+use units::address::Hpa;
+
+const STDIN: i32 = 0;
+
+const STDOUT: i32 = 1;
+
+const BASE_BYTES: u64 = 1073741824;
+
+const FRAMES: u64 = 1024;
+
+// An answer's line takes at most so many bytes, with a line number and an hpa of 20 digits each.
+const ANSWER_BYTES: usize = 128;
+
+// Where the replay stands: the gauge, the script so far, the bytes of output not yet written, and whether the reading is over: at the
+// input's end, or at line 10001.
+pub struct State {
+    pub gauge: Gauge,
+    pub feed: Feed,
+    pub pending: usize,
+    pub stopped: bool,
+}
+
+fn main() {
+    let mut frames = [0u64; 1024];
+    let mut domains = [0u64; 20];
+    let mut stock = [0u64; 1];
+    let mut entries = [0u32; 8192];
+    let mut input = [0u8; 4096];
+    let mut line = [0u8; 121];
+    let mut out = [0u8; 4096];
+    replay(
+        &mut frames,
+        &mut domains,
+        &mut stock,
+        &mut entries,
+        &mut input,
+        &mut line,
+        &mut out,
+    );
+}
+
+// A fresh start with the program's marks, the first line, the script, the last line.
+fn replay(
+    frames: &mut [u64],
+    domains: &mut [u64],
+    stock: &mut [u64],
+    entries: &mut [u32],
+    input: &mut [u8],
+    line: &mut [u8],
+    out: &mut [u8],
+) {
+    let gauge = start(frames, domains, stock, entries);
+    let begun = begin(out, gauge);
+    let ended = run_script(frames, domains, stock, entries, input, line, out, begun);
+    finish(frames, out, ended);
+}
+
+fn start(frames: &mut [u64], domains: &mut [u64], stock: &mut [u64], entries: &mut [u32]) -> Gauge {
+    let base = Hpa(BASE_BYTES);
+    let fresh = setting::reset(base, frames, domains, stock, entries, gauge::fresh_gauge());
+    let g = fresh.gauge;
+    let set = setting::set_marks(base, frames, domains, stock, entries, g, 0.75, 0.5);
+    set.gauge
+}
+
+fn run_script(
+    frames: &mut [u64],
+    domains: &mut [u64],
+    stock: &mut [u64],
+    entries: &mut [u32],
+    input: &mut [u8],
+    line: &mut [u8],
+    out: &mut [u8],
+    begun: State,
+) -> State {
+    let read = read_all(frames, domains, stock, entries, input, line, out, begun);
+    end_line(frames, domains, stock, entries, line, out, read)
+}
+
+fn begin(out: &mut [u8], gauge: Gauge) -> State {
+    let n = answer::write_first(out, FRAMES);
+    State {
+        gauge,
+        feed: Feed { lines: 0, held: 0 },
+        pending: session::within(n, out),
+        stopped: false,
+    }
+}
+
+fn finish(frames: &[u64], out: &mut [u8], s: State) {
+    let done = flush(out, s);
+    let g = done.gauge;
+    let last = answer::write_last(out, count::used_frames(frames), g.lamp);
+    let n = session::within(last, out);
+    io::write_all(STDOUT, &out[..n]);
+}
+
+// The pending output is written.
+fn flush(out: &[u8], s: State) -> State {
+    let n = session::within(s.pending, out);
+    io::write_all(STDOUT, &out[..n]);
+    let gauge = s.gauge;
+    let feed = s.feed;
+    State {
+        gauge,
+        feed,
+        pending: 0,
+        stopped: s.stopped,
+    }
+}
+
+// Room for one answer more.
+fn with_room(out: &[u8], s: State) -> State {
+    let n = session::within(s.pending, out);
+    if out.len() - n < ANSWER_BYTES {
+        return flush(out, s);
+    }
+    s
+}
+
+// The line held, run as line `number`.
+fn run_line(
+    frames: &mut [u64],
+    domains: &mut [u64],
+    stock: &mut [u64],
+    entries: &mut [u32],
+    line: &[u8],
+    out: &mut [u8],
+    number: u64,
+    old: State,
+) -> State {
+    let s = with_room(out, old);
+    let gauge = s.gauge;
+    let feed = s.feed;
+    let held = session::within(feed.held, line);
+    let at = session::within(s.pending, out);
+    let most = out.len();
+    let r = session::reply(
+        Hpa(BASE_BYTES),
+        frames,
+        domains,
+        stock,
+        entries,
+        gauge,
+        &line[..held],
+        number,
+        &mut out[at..],
+    );
+    let now = r.gauge;
+    State {
+        gauge: now,
+        feed,
+        pending: session::advanced(at, r.wrote, most),
+        stopped: s.stopped,
+    }
+}
+
+// Line 10001 answers 15 and ends the reading.
+fn stop_at(out: &mut [u8], old: State) -> State {
+    let s = with_room(out, old);
+    let gauge = s.gauge;
+    let feed = s.feed;
+    let at = session::within(s.pending, out);
+    let most = out.len();
+    let n = answer::write_unreadable(&mut out[at..], session::LINES_MOST + 1);
+    State {
+        gauge,
+        feed,
+        pending: session::advanced(at, n, most),
+        stopped: true,
+    }
+}
+
+fn with_feed(s: State, feed: Feed) -> State {
+    let gauge = s.gauge;
+    State {
+        gauge,
+        feed,
+        pending: s.pending,
+        stopped: s.stopped,
+    }
+}
+
+fn take_byte(
+    frames: &mut [u64],
+    domains: &mut [u64],
+    stock: &mut [u64],
+    entries: &mut [u32],
+    line: &mut [u8],
+    out: &mut [u8],
+    byte: u8,
+    s: State,
+) -> State {
+    let feed = s.feed;
+    match session::turn_of(feed, byte) {
+        Turn::Hold(next) => {
+            session::hold(line, feed.held, byte);
+            with_feed(s, next)
+        }
+        Turn::Ends(next) => {
+            let t = run_line(frames, domains, stock, entries, line, out, next.lines, s);
+            with_feed(t, next)
+        }
+        Turn::Stop => stop_at(out, s),
+    }
+}
+
+fn take_part(
+    frames: &mut [u64],
+    domains: &mut [u64],
+    stock: &mut [u64],
+    entries: &mut [u32],
+    line: &mut [u8],
+    out: &mut [u8],
+    part: &[u8],
+    begun: State,
+) -> State {
+    let mut s = begun;
+    let mut i = 0;
+    while i < part.len() {
+        if s.stopped {
+            return s;
+        }
+        s = take_byte(frames, domains, stock, entries, line, out, part[i], s);
+        i += 1;
+    }
+    s
+}
+
+// One part of the input, or its end.
+fn read_part(
+    frames: &mut [u64],
+    domains: &mut [u64],
+    stock: &mut [u64],
+    entries: &mut [u32],
+    input: &mut [u8],
+    line: &mut [u8],
+    out: &mut [u8],
+    s: State,
+) -> State {
+    let got = libc::read(STDIN, input);
+    if got <= 0 {
+        let gauge = s.gauge;
+        let feed = s.feed;
+        return State {
+            gauge,
+            feed,
+            pending: s.pending,
+            stopped: true,
+        };
+    }
+    let n = io::count(got, input);
+    take_part(frames, domains, stock, entries, line, out, &input[..n], s)
+}
+
+// The whole input, a part at a time. No input is longer than the turns counted.
+fn read_all(
+    frames: &mut [u64],
+    domains: &mut [u64],
+    stock: &mut [u64],
+    entries: &mut [u32],
+    input: &mut [u8],
+    line: &mut [u8],
+    out: &mut [u8],
+    begun: State,
+) -> State {
+    let mut s = begun;
+    let mut turns = u64::MAX;
+    while turns > 0 {
+        if s.stopped {
+            return s;
+        }
+        turns -= 1;
+        s = read_part(frames, domains, stock, entries, input, line, out, s);
+    }
+    s
+}
+
+// A last line may lack its LF.
+fn end_line(
+    frames: &mut [u64],
+    domains: &mut [u64],
+    stock: &mut [u64],
+    entries: &mut [u32],
+    line: &[u8],
+    out: &mut [u8],
+    s: State,
+) -> State {
+    let feed = s.feed;
+    if feed.held == 0 {
+        return s;
+    }
+    if feed.lines >= session::LINES_MOST {
+        return s;
+    }
+    run_line(
+        frames,
+        domains,
+        stock,
+        entries,
+        line,
+        out,
+        feed.lines + 1,
+        s,
+    )
+}

@@ -1,0 +1,62 @@
+// Words that no call leaves behind, written by hand: answers 12, 13 and 14.
+use crate::step;
+use crate::step::Step;
+use crate::step::at;
+use calls::Call;
+use units::address::Gpa;
+use units::address::Hpa;
+
+// Key 32, keys configured, initialized, control pages 4, children 4, epoch 2^32 - 2.
+const NEXT_TO_LAST: u64 = 4611686016280052896;
+
+// Key 32, keys configured, initialized, control pages 4, children 512, epoch 1.
+const ALL_CHILDREN: u64 = 1090536608;
+
+// The epoch one below its limit, and at it.
+pub(crate) fn limits(n: u64) -> Step {
+    match n {
+        8 => Step::Record(NEXT_TO_LAST),
+        9 => Step::Ask(1, Call::Track(at(0))),
+        10 => Step::Ask(2, Call::Track(at(0))),
+        _ => step::built(n),
+    }
+}
+
+// A type 5, a spare bit, a record of zeros in use; a word of an unused record is not looked at.
+pub(crate) fn ranges(n: u64) -> Step {
+    match n {
+        0 => Step::Reset,
+        1 => Step::Frame(511, 5),
+        2 => Step::Ask(1, Call::ReadPage(at(0))),
+        3 => Step::Ask(2, Call::ReadPage(Hpa(1))),
+        4 => Step::Frame(511, 0),
+        5 => Step::Ask(3, Call::ReadPage(at(0))),
+        6 => Step::Stock(64),
+        7 => Step::Ask(4, Call::ReadPage(at(0))),
+        8 => Step::Stock(16),
+        9 => Step::Ask(5, Call::ReadPage(at(0))),
+        10 => Step::Stock(0),
+        11 => Step::Record(127),
+        12 => Step::Ask(6, Call::Create(at(0), 32)),
+        _ => Step::End,
+    }
+}
+
+// An EPT owned by a control page, a child count at the frames, a TDR whose record is unused.
+pub(crate) fn owners(n: u64) -> Step {
+    match n {
+        8 => Step::Ask(1, Call::SeptAdd(at(0), Gpa(0), 3, at(5))),
+        9 => Step::Frame(5, 11),
+        10 => Step::Ask(2, Call::SeptAdd(at(0), Gpa(0), 2, at(6))),
+        11 => Step::Ask(3, Call::Block(at(0), Gpa(0), 3)),
+        12 => Step::Ask(4, Call::Reclaim(at(5))),
+        13 => Step::Frame(5, 3),
+        14 => Step::Ask(5, Call::SeptAdd(at(0), Gpa(0), 2, at(6))),
+        15 => Step::Record(ALL_CHILDREN),
+        16 => Step::Ask(6, Call::SeptAdd(at(0), Gpa(0), 1, at(7))),
+        17 => Step::Stock(3),
+        18 => Step::Ask(7, Call::KeyConfig(at(0))),
+        19 => Step::Ask(8, Call::Reclaim(at(0))),
+        _ => step::built(n),
+    }
+}

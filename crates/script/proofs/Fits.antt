@@ -1,0 +1,80 @@
+-- Holding a line against a row: a turn of the loop and its end; and finding a field by its number.
+use mathlib.Core.Path.{_≡_, refl, _∙_, ap, sym}
+use mathlib.Core.Bool.{false}
+use mathlib.Core.List.{List, [], _∷_}
+use mathlib.Core.Logic.{⊎-elim}
+use Prim.Native.Nat.{ℕ, _+_, _<_, _≤_}
+use native.Mathlib.Nat.{eq-or-lt-of-le}
+use native.Mathlib.Omega.{arith}
+use borrow.Author.Tests.{eq-eqb, ne-eqb}
+use lib.Dec.{eqb}
+use lib.ListN.{length, getD, drop, drop-of-length-le, length-drop}
+use lib.Seq.{drop-drop}
+use Rattle.rules.specs.Rule.{iff}
+use Rattle.rules.proofs.Steps.{iff-both}
+use Rattle.script.specs.Text.{lf, tab}
+use Rattle.script.specs.Number.{numberOf}
+use Rattle.script.specs.Lines.{place, field, onNumber, starts, takenBy, onTaken, fits}
+use Rattle.script.specs.declared.number.Number.{Number}
+use Rattle.script.specs.declared.number.Number.the-variants.{Is, No}
+use Rattle.script.specs.declared.line.Taken.{Taken}
+use Rattle.script.specs.declared.line.Taken.the-variants.{Bytes, Nothing}
+use Rattle.script.proofs.Lists.{next}
+use Rattle.script.proofs.Marks.{upto-within}
+
+-- no more is taken than there is
+Within : List ℕ → Taken → Type 0
+Within l Nothing = Unit {0}
+Within l (Bytes n) = n ≤ length l
+
+number-within : (l : List ℕ) (n : Number) → Within l (onNumber n Nothing (λ _. Bytes (length (field l))))
+unfolding onNumber Within
+number-within l No = tt
+number-within l (Is n) = upto-within tab l
+
+start-within : (b : ℕ) (l : List ℕ) → Within l (iff (starts b l) (Bytes 1) Nothing)
+unfolding starts iff Within
+start-within b [] = tt
+start-within b (c ∷ l) = iff-both (Within (c ∷ l)) (eqb c b) (Bytes 1) Nothing (λ _. omega arith) (λ _. tt)
+
+taken-within : (b : ℕ) (l : List ℕ) → Within l (takenBy b l)
+unfolding takenBy
+taken-within b l =
+    iff-both (Within l) (eqb b place) _ _ (λ _. number-within l (numberOf (field l))) (λ _. start-within b l)
+
+none-left : (l : List ℕ) (at : ℕ) → at ≤ length l → eqb at (length l) ≡ eqb (length (drop at l)) 0
+none-left l at h = ⊎-elim
+    (λ (q : at ≡ length l). eq-eqb _ _ q ∙ sym (eq-eqb (length (drop at l)) 0 (rw length-drop (omega arith))))
+    (λ (q : at < length l). ne-eqb at (length l) (omega arith) ∙ sym (ne-eqb (length (drop at l)) 0 (rw length-drop (omega arith))))
+    (eq-or-lt-of-le h)
+
+-- what the loop keeps: the rest of the row against the rest of the line
+pub record Fitting (table line : List ℕ) (from at i : ℕ) : Type 0 where
+  pub within : at ≤ length line
+  pub left : fits (drop from table) line ≡ fits (drop i table) (drop at line)
+
+pub fitting-none : (table line : List ℕ) (from : ℕ) → Fitting table line from 0 from
+fitting-none table line from = record { within = omega arith; left = refl }
+
+module _ {table line : List ℕ} {from at i : ℕ} (f : Fitting table line from at i) where
+  pub fitting-end : i < length table → getD table i 0 ≡ lf → eqb at (length line) ≡ fits (drop from table) line
+  unfolding fits iff
+  fitting-end h q = rw (f .left, next table i h, eq-eqb _ _ q) (none-left line at (f .within))
+
+  module _ {r : Taken} (h : i < length table) (q : getD table i 0 ≡ lf → ⊥) (t : r ≡ takenBy (getD table i 0) (drop at line)) where
+    pub fitting-stop : r ≡ Nothing → false ≡ fits (drop from table) line
+    unfolding fits iff onTaken
+    fitting-stop n = rw (f .left, next table i h, ne-eqb _ _ q, ← t, n)
+
+    pub fitting-more : {n : ℕ} → r ≡ Bytes n → Fitting table line from (at + n) (i + 1)
+    unfolding fits iff onTaken Within
+    fitting-more {n} e =
+        let w : n ≤ length (drop at line) = rw (← t, e) at (taken-within (getD table i 0) (drop at line)) in
+        record {
+          within = omega (arith, w, length-drop at line, f .within);
+          left = rw (f .left, next table i h, ne-eqb _ _ q, ← t, e) (ap (fits (drop (i + 1) table)) (drop-drop n at line));
+        }
+
+  pub fitting-out : length table ≤ i → false ≡ fits (drop from table) line
+  unfolding fits
+  fitting-out h = rw (f .left, drop-of-length-le table h)

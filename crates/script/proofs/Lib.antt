@@ -1,0 +1,9 @@
+pub mod Lists
+pub mod Numbers
+pub mod Marks
+pub mod Ons
+pub mod Fits
+pub mod Rows
+pub mod Fields
+pub mod Writes
+pub mod Decimals

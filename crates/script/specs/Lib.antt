@@ -1,0 +1,5 @@
+pub mod Text
+pub mod Number
+pub mod Rows
+pub mod Lines
+pub mod Answers
