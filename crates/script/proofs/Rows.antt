@@ -12,7 +12,7 @@ use Rattle.rules.specs.Rule.{iff}
 use Rattle.rules.proofs.Steps.{iff-both, both-left, both-right}
 use Rattle.script.specs.Text.{lf, upto}
 use Rattle.script.specs.Rows.{Row, createRow, rows}
-use Rattle.script.specs.Lines.{form, text, takenBy, onTaken, fits, made, numbersOf, callAt, readBy}
+use Rattle.script.specs.Lines.{form, text, takenBy, onTaken, fits, made, numberIn, numbersOf, callAt, readBy}
 use Rattle.calls.specs.declared.Call.{Call}
 use Rattle.script.specs.declared.line.Line.the-variants.{Call as Reads, Unreadable}
 
@@ -35,6 +35,12 @@ other-first (suc row) o = List·getD-eq-default {A = Row} rows createRow {n = su
 pub row-other : (ns : List ℕ) {z : Call} {row : ℕ} → Others row (length rows - 1) → z ≡ callAt 0 ns → z ≡ callAt row ns
 unfolding callAt
 row-other ns {row = row} o h = rw (other-first row o) h
+
+-- with a line's numbers, as a callee read them
+pub numbers-by : (row : ℕ) (l : List ℕ) {a b c d : ℕ} {z : Call} → a ≡ numberIn l 2 → b ≡ numberIn l 4 → c ≡ numberIn l 6 → d ≡ numberIn l 8
+    → z ≡ callAt row (a ∷ b ∷ c ∷ d ∷ []) → z ≡ callAt row (numbersOf l)
+unfolding numbersOf
+numbers-by row l p q r s h = rw (← p, ← q, ← r, ← s) h
 
 -- the table: the rows' lines, one after the other
 unfoldable pub texts : List Row → List ℕ

@@ -20,7 +20,7 @@ abbrev μ-loop : tie.MeasureT-loop
 
 loop-holds : tie.Need-loop-holds Inv-loop μ-loop
 unfolding texts
-loop-holds c = trying-none _ _ refl
+loop-holds c = search trying-none
 
 pub read-line-spec : {M : Type 1} → statement M
 unfolding lineOf
