@@ -51,7 +51,7 @@ lose x n s e =
     given (withCounts (x .dom) (x .dom .listed) (x .dom .children - 1)) λ d.
     Do (edit (frame.Set n freed) page.Keep (domains.Set (x .rec) d) s e))
 
--- "D" as the call's operand 0
+-- an hpa, which is operand k of the call
 abbrev pub onFrame : Hpa → Tables → Hpa → ℕ → (Pfn → Plan) → Plan
 onFrame base t hpa k next = onOperand (frameOperand base (length (t .frames)) hpa k) (refuse 1) next
 
