@@ -16,7 +16,7 @@ const BASE_BYTES: u64 = 1073741824;
 
 const FRAMES: u64 = 1024;
 
-// An answer's line takes at most so many bytes, with a line number and an hpa of 20 digits each.
+// Room for an answer: its line takes at most bytes 118, the line's number having 5 digits at most and any other 20.
 const ANSWER_BYTES: usize = 128;
 
 // Where the replay stands: the gauge, the script so far, the bytes of output not yet written, and whether the reading is over: at the
