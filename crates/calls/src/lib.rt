@@ -55,6 +55,7 @@ pub enum Answer {
 }
 
 // An answer as the paper writes it: its number and all that is read out.
+#[repr(C)]
 pub struct Values {
     pub number: u64,
     pub kind: u64,

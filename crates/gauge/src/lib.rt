@@ -6,6 +6,7 @@ ghost use Rattle.gauge.specs.Marks.{sameBits, countOf, isMark, marksOk};
 ghost use Rattle.gauge.specs.Update.{lampAfter, after, marked, fresh};
 use units::limits;
 
+#[repr(C)]
 pub struct Gauge {
     pub raise: f64,
     pub clear: f64,

@@ -1,7 +1,7 @@
 // Replays a script: calls on standard input, a line each; their answers on standard output. Only reading, writing and the loops over them
 // stand here: what a byte does and what a line answers is proved in the crate session.
+use entry::Ask;
 use gauge::Gauge;
-use host::setting;
 use ledger::count;
 use script::answer;
 use session::Feed;
@@ -65,9 +65,10 @@ fn replay(
 
 fn start(frames: &mut [u64], domains: &mut [u64], stock: &mut [u64], entries: &mut [u32]) -> Gauge {
     let base = Hpa(BASE_BYTES);
-    let fresh = setting::reset(base, frames, domains, stock, entries, gauge::fresh_gauge());
-    let g = fresh.gauge;
-    let set = setting::set_marks(base, frames, domains, stock, entries, g, 0.75, 0.5);
+    let g = gauge::fresh_gauge();
+    let fresh = entry::entered(base, frames, domains, stock, entries, g, Ask::Reset);
+    let marks = Ask::Marks(0.75, 0.5);
+    let set = entry::entered(base, frames, domains, stock, entries, fresh.gauge, marks);
     set.gauge
 }
 

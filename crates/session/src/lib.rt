@@ -6,8 +6,8 @@ ghost use lib.ListN.{length, take};
 ghost use Rattle.ledger.specs.Tables.{lent};
 ghost use Rattle.script.specs.Answers.{pen, wrote};
 ghost use Rattle.session.specs.Session.{turnOf, heldAfter, least, answered, replied};
+use entry::Ask;
 use gauge::Gauge;
-use host::call;
 use script::answer;
 use script::line;
 use script::line::Line;
@@ -115,7 +115,7 @@ pub fn reply(
             Replied { gauge: g, wrote }
         }
         Line::Call(c) => {
-            let r = call::answer_call(base, frames, domains, stock, entries, g, c);
+            let r = entry::entered(base, frames, domains, stock, entries, g, Ask::Host(c));
             let a = r.answer;
             let gauge = r.gauge;
             let wrote = answer::write_answer(out, number, a);

@@ -7,12 +7,14 @@ use crate::limits::FRAME_BYTES;
 const ADDRESS_FRAMES: u64 = 4503599627370496;
 
 // A host physical address, in bytes.
+#[repr(C)]
 pub struct Hpa(pub u64);
 
 // A frame's number in the window: 0 is the frame at the base.
 pub struct Pfn(pub usize);
 
 // A guest physical address, in bytes.
+#[repr(C)]
 pub struct Gpa(pub u64);
 
 // What an hpa names in a window.

@@ -1,10 +1,11 @@
+use Rattle.entry.specs.Asks.{askOf}
 use Rattle.session.specs.Session.{answered, onLine}
 use borrow.Author.Needs.{needs}
 use Rattle.session.proofs.reply.Statement.{statement}
 use Rattle.session.proofs.reply.Tie as tie
 
 pub reply-spec : {M : Type 1} → statement M
-unfolding answered onLine
+unfolding answered onLine askOf
 reply-spec =
     tie.close
     (tie.spec
@@ -21,4 +22,4 @@ reply-spec =
     (λ c. search needs)
     (λ c. search needs)
     (λ c. search needs)
-    (λ c. rw (← c .before .before .before .before .before .before .before .before .before .before .before .before .before .before .before .before .before .before .before .before .before .read-line .ensures, c .before .before .before .before .before .before .before .before .before .before .before .before .before .before .before .before .before .before .before .c .given .1, ← c .before .before .before .before .before .before .before .before .before .before .before .before .before .answer-call .ensures, ← c .before .before .write-answer .ensures)))
+    (λ c. rw (← c .before .before .before .before .before .before .before .before .before .before .before .before .before .before .before .before .before .before .before .before .before .read-line .ensures, c .before .before .before .before .before .before .before .before .before .before .before .before .before .before .before .before .before .before .before .c .given .1, ← c .before .before .before .before .before .before .before .before .before .before .before .before .before .entered .ensures, ← c .before .before .write-answer .ensures)))

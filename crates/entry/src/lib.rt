@@ -1,0 +1,89 @@
+// The one entry for everything that a host asks: on the lent tables, with the gauge lent too and changed in place.
+ghost use mathlib.Core.Path.{_≡_};
+ghost use Rattle.ledger.specs.Tables.{lent};
+ghost use Rattle.host.specs.Calls.{outcome};
+ghost use Rattle.entry.specs.Asks.{askOf};
+use calls::Answer;
+use calls::Call;
+use gauge::Gauge;
+use host::call;
+use host::call::Reply;
+use host::setting;
+use units::address::Hpa;
+
+// What a host asks: one of its calls, the setting of the gauge's marks (raise, clear), a fresh start, or nothing that has a name.
+pub enum Ask {
+    Host(Call),
+    Marks(f64, f64),
+    Reset,
+    Unreadable,
+}
+
+// Any ask, with the gauge by value.
+pub fn answer_ask(
+    base: Hpa,
+    frames: &mut [u64],
+    domains: &mut [u64],
+    stock: &mut [u64],
+    entries: &mut [u32],
+    g: Gauge,
+    ask: Ask,
+) -> Reply
+    ensures { λ r. ⌜ outcome (r .answer) (lent (now (frames .exit)) (now (domains .exit)) (now (stock .exit)) (now (entries .exit))) (r .gauge) ≡ askOf base (lent (now (frames .entry)) (now (domains .entry)) (now (stock .entry)) (now (entries .entry))) g ask ⌝ }
+{
+    match ask {
+        Ask::Host(c) => call::answer_call(base, frames, domains, stock, entries, g, c),
+        Ask::Marks(raise, clear) => setting::set_marks(
+            base,
+            frames,
+            domains,
+            stock,
+            entries,
+            g,
+            raise,
+            clear,
+        ),
+        Ask::Reset => setting::reset(base, frames, domains, stock, entries, g),
+        Ask::Unreadable => Reply {
+            answer: Answer::No(15, 0),
+            gauge: g,
+        },
+    }
+}
+
+// The thin entry: the lent gauge is copied out, and the gauge that came back is stored in its place.
+pub fn enter(
+    base: Hpa,
+    frames: &mut [u64],
+    domains: &mut [u64],
+    stock: &mut [u64],
+    entries: &mut [u32],
+    g: &mut Gauge,
+    ask: Ask,
+) -> Answer
+    ensures { λ r. ⌜ outcome r (lent (now (frames .exit)) (now (domains .exit)) (now (stock .exit)) (now (entries .exit))) (now (g .exit)) ≡ askOf base (lent (now (frames .entry)) (now (domains .entry)) (now (stock .entry)) (now (entries .entry))) (now (g .entry)) ask ⌝ }
+{
+    let r = answer_ask(base, frames, domains, stock, entries, *g, ask);
+    *g = r.gauge;
+    r.answer
+}
+
+// The entry for a caller that holds its gauge by value: the borrow checker covers no loop that lends one.
+pub fn entered(
+    base: Hpa,
+    frames: &mut [u64],
+    domains: &mut [u64],
+    stock: &mut [u64],
+    entries: &mut [u32],
+    g: Gauge,
+    ask: Ask,
+) -> Reply
+    ensures { λ r. ⌜ outcome (r .answer) (lent (now (frames .exit)) (now (domains .exit)) (now (stock .exit)) (now (entries .exit))) (r .gauge) ≡ askOf base (lent (now (frames .entry)) (now (domains .entry)) (now (stock .entry)) (now (entries .entry))) g ask ⌝ }
+{
+    let mut held = g;
+    let answer = enter(base, frames, domains, stock, entries, &mut held, ask);
+    Reply {
+        answer,
+        gauge: held,
+    }
+}
