@@ -26,7 +26,7 @@ use denote.Laws.{Is, shows}
 use denote.Memory.{mem}
 use denote.Builtin.{u32, u64}
 use denote.Ref.{RefT, MutRef, ptr-vals, mut-tells}
-use denote.Slice.{sliceVal, MutSlice, Room, finally, slice-vals, mut-slice-tells}
+use denote.Slice.{MutSlice, Room, finally, slice-vals, mut-slice-tells}
 use denote.Signature.{plain}
 use denote.Steps.{only, opens, closes, owned, peeks, heard, nothing}
 use denote.Struct.Steps.{spelt}
@@ -57,6 +57,8 @@ use Rattle.entry.specs.Asks.{askOf}
 use Rattle.entry.specs.declared.Ask.{Ask}
 use Rattle.entry.proofs.Ask as K
 use Rattle.entry.proofs.Ask.Laws as K′
+use Rattle.entry.proofs.Lent.{Slice, slice-val, base-val, ask-val, answer-val}
+use Rattle.entry.proofs.Lies.{mach}
 use Rattle.entry.proofs.answer_ask as core
 use Rattle.entry.proofs.answer_ask.Symbol as core-def
 use Rattle.entry.proofs.answer_ask.Symbol.{name as #entry·answer_ask}
@@ -73,25 +75,9 @@ stayed = (stay-none (λ _. B.the-row) yes, (gave-slice (0 ∷ []) tt (plain (λ 
 abbrev Core : {M : Type 1} (𝓤 : URA M) (H : Heap 𝓤) (A : Atoms 𝓤) (mem : Memory → SProp 𝓤) (run : Routine → Fun 𝓤) → Contract 𝓤
 Core 𝓤 H A mem run = tripleOf 𝓤 H A core.signature (core.spec 𝓤 H A mem run)
 
--- the machine values
-abbrev base-val : Hpa → Val
-base-val d = only (LL.vals B.the-type B′.the-laws d)
-
-abbrev mach : Gauge → Val
-mach d = only (LL.vals T.the-type T′.the-laws d)
-
-abbrev ask-val : Ask → Val
-ask-val d = EL.val K.the-type K′.the-laws d
-
 module _ {M : Type 1} (𝓤 : URA M) (H : Heap 𝓤) (A : Atoms 𝓤) (W : Given 𝓤 H A) (at-mem : Memory → SProp 𝓤) (run : Routine → Fun 𝓤)
-    (κ₀ κ₁ κ₂ κ₃ κ′ : Lft) (q₀ q₁ q₂ q₃ q′ : Share) (base : Hpa) (xF xD xS xE : RefT (List ℕ)) (b o : ℕ) (γ : GName) (h : Gauge) (k : Ask)
+    (κ₀ κ₁ κ₂ κ₃ κ′ : Lft) (q₀ q₁ q₂ q₃ q′ : Share) (base : Hpa) (xF xD xS xE : Slice) (b o : ℕ) (γ : GName) (h : Gauge) (k : Ask)
     (base-is : Is B.the-row base (base-val base ∷ [])) (ask-is : Is K.the-row k (ask-val k ∷ [])) where
-  abbrev sl : RefT (List ℕ) → Val
-  sl x = sliceVal (x .ptr) (length (x .now))
-
-  abbrev Slice : Type 0
-  Slice = RefT (List ℕ)
-
   abbrev g : RefT Gauge
   g = record { ptr = (b, o); name = γ; now = h }
 
@@ -102,14 +88,14 @@ module _ {M : Type 1} (𝓤 : URA M) (H : Heap 𝓤) (A : Atoms 𝓤) (W : Given
   a = (base, (xF, (xD, (xS, (xE, (g, (k, tt)))))))
 
   abbrev at : List Val × (List Val × (List Val × (List Val × (List Val × (List Val × (List Val × Unit {0}))))))
-  at = (base-val base ∷ [], (sl xF ∷ [], (sl xD ∷ [], (sl xS ∷ [], (sl xE ∷ [], (vptr b o ∷ [], (ask-val k ∷ [], tt)))))))
+  at = (base-val base ∷ [], (slice-val xF ∷ [], (slice-val xD ∷ [], (slice-val xS ∷ [], (slice-val xE ∷ [], (vptr b o ∷ [], (ask-val k ∷ [], tt)))))))
 
   -- what `answer_ask` ensures of its result and the last words
   abbrev Said : Reply → List ℕ → List ℕ → List ℕ → List ℕ → Type 0
   Said r zF zD zS zE = outcome (r .answer) (lent zF zD zS zE) (r .gauge) ≡ askOf base (lent (xF .now) (xD .now) (xS .now) (xE .now)) h k
 
   -- what is known of the parts of what `answer_ask` returned
-  answer-is : (r : Reply) (v : Val) → Is S.the-row r (v ∷ []) → Is N.the-row (r .answer) (EL.vals N.the-type N′.the-laws (r .answer))
+  answer-is : (r : Reply) (v : Val) → Is S.the-row r (v ∷ []) → Is N.the-row (r .answer) (answer-val (r .answer) ∷ [])
   answer-is r v is = LL.owed S.the-type S′.the-laws r (v ∷ []) is .0
 
   gauge-is : (r : Reply) (v : Val) → Is S.the-row r (v ∷ []) → Is T.the-row (r .gauge) (mach (r .gauge) ∷ [])
@@ -119,13 +105,13 @@ module _ {M : Type 1} (𝓤 : URA M) (H : Heap 𝓤) (A : Atoms 𝓤) (W : Given
   Post = walkOf 𝓤 H A f.ended stayed (f.clauses 𝓤 H A at-mem run) .post (((κ₀, (κ₁, (κ₂, (κ₃, (κ′, tt))))), (q₀, (q₁, (q₂, (q₃, (q′, tt))))), tt, a, at), tt)
 
   exits : (r : Reply) (zF zD zS zE : List ℕ) → Said r zF zD zS zE → length zF ≡ length (xF .now) → length zD ≡ length (xD .now) → length zS ≡ length (xS .now) → length zE ≡ length (xE .now)
-      → Is N.the-row (r .answer) (EL.vals N.the-type N′.the-laws (r .answer))
+      → Is N.the-row (r .answer) (answer-val (r .answer) ∷ [])
       → ent 𝓤 (⋆ 𝓤 H A (‵ (fobs γ (T.the-row .coded .code (r .gauge))) ∷ ‵ (fbor κ′ (Body (mem T.the-row) b o γ)) ∷ ‵ (flft κ′ q′) ∷ (‵ (flft κ₀ q₀) ⊛ ‵ (flft κ₁ q₁) ⊛ ‵ (flft κ₂ q₂) ⊛ ‵ (flft κ₃ q₃) ⊛ ‵ ftrue)
-      ∷ ‵ (finally u32 (xE .name) zE) ∷ ‵ (finally u64 (xS .name) zS) ∷ ‵ (finally u64 (xD .name) zD) ∷ ‵ (finally u64 (xF .name) zF) ∷ [])) (Post (EL.val N.the-type N′.the-laws (r .answer)))
+      ∷ ‵ (finally u32 (xE .name) zE) ∷ ‵ (finally u64 (xS .name) zS) ∷ ‵ (finally u64 (xD .name) zD) ∷ ‵ (finally u64 (xF .name) zF) ∷ [])) (Post (answer-val (r .answer)))
   exits r zF zD zS zE e eF eD eS eE ans =
       qed W (‵ (fobs γ (T.the-row .coded .code (r .gauge))) ∷ ‵ (fbor κ′ (Body (mem T.the-row) b o γ)) ∷ ‵ (flft κ′ q′) ∷ (‵ (flft κ₀ q₀) ⊛ ‵ (flft κ₁ q₁) ⊛ ‵ (flft κ₂ q₂) ⊛ ‵ (flft κ₃ q₃) ⊛ ‵ ftrue)
       ∷ ‵ (finally u32 (xE .name) zE) ∷ ‵ (finally u64 (xS .name) zS) ∷ ‵ (finally u64 (xD .name) zD) ∷ ‵ (finally u64 (xF .name) zF) ∷ []) ∵
-      suffices ! _ (ends-at 𝓤 H A f.ended stayed (f.clauses 𝓤 H A at-mem run) W (((κ₀, (κ₁, (κ₂, (κ₃, (κ′, tt))))), (q₀, (q₁, (q₂, (q₃, (q′, tt))))), tt, a, at), tt) (EL.val N.the-type N′.the-laws (r .answer)) (r .answer)
+      suffices ! _ (ends-at 𝓤 H A f.ended stayed (f.clauses 𝓤 H A at-mem run) W (((κ₀, (κ₁, (κ₂, (κ₃, (κ′, tt))))), (q₀, (q₁, (q₂, (q₃, (q′, tt))))), tt, a, at), tt) (answer-val (r .answer)) (r .answer)
       (tt, (zF, (zD, (zS, (zE, (r .gauge, (tt, tt))))))) (tt, (eF, (eD, (eS, (eE, (tt, (tt, tt)))))))) $
       says ! e $
       move ! (3 ∷ []) $ split ! $ move ! (1 ∷ []) $ split ! $ move ! (1 ∷ []) $ split ! $ move ! (1 ∷ []) $ split ! $
@@ -138,13 +124,13 @@ module _ {M : Type 1} (𝓤 : URA M) (H : Heap 𝓤) (A : Atoms 𝓤) (W : Given
 
   -- what `answer_ask`'s triple binds outside, and its `pre`: the slices at their own lifetimes, and the copied gauge
   abbrev to-core : Core 𝓤 H A at-mem run .Ghost
-  to-core = (((κ₀, (κ₁, (κ₂, (κ₃, tt)))), (q₀, (q₁, (q₂, (q₃, tt)))), tt, (base, (xF, (xD, (xS, (xE, (h, (k, tt))))))), (base-val base ∷ [], (sl xF ∷ [], (sl xD ∷ [], (sl xS ∷ [], (sl xE ∷ [], (mach h ∷ [], (ask-val k ∷ [], tt)))))))), tt)
+  to-core = (((κ₀, (κ₁, (κ₂, (κ₃, tt)))), (q₀, (q₁, (q₂, (q₃, tt)))), tt, (base, (xF, (xD, (xS, (xE, (h, (k, tt))))))), (base-val base ∷ [], (slice-val xF ∷ [], (slice-val xD ∷ [], (slice-val xS ∷ [], (slice-val xE ∷ [], (mach h ∷ [], (ask-val k ∷ [], tt)))))))), tt)
 
   goes-core : Is T.the-row h (mach h ∷ []) → ent 𝓤 (⋆ 𝓤 H A ((‵ (flft κ₀ q₀) ⊛ ‵ (flft κ₁ q₁) ⊛ ‵ (flft κ₂ q₂) ⊛ ‵ (flft κ₃ q₃))
-      ∷ (‵ (MutSlice (named 0) κ₀ u64 .own xF (sl xF ∷ [])) ⊛ ‵ (MutSlice (named 1) κ₁ u64 .own xD (sl xD ∷ [])) ⊛ ‵ (MutSlice (named 2) κ₂ u64 .own xS (sl xS ∷ [])) ⊛ ‵ (MutSlice (named 3) κ₃ u32 .own xE (sl xE ∷ []))) ∷ [])) (Core 𝓤 H A at-mem run .pre to-core)
+      ∷ (‵ (MutSlice (named 0) κ₀ u64 .own xF (slice-val xF ∷ [])) ⊛ ‵ (MutSlice (named 1) κ₁ u64 .own xD (slice-val xD ∷ [])) ⊛ ‵ (MutSlice (named 2) κ₂ u64 .own xS (slice-val xS ∷ [])) ⊛ ‵ (MutSlice (named 3) κ₃ u32 .own xE (slice-val xE ∷ []))) ∷ [])) (Core 𝓤 H A at-mem run .pre to-core)
   goes-core was =
       qed W ((‵ (flft κ₀ q₀) ⊛ ‵ (flft κ₁ q₁) ⊛ ‵ (flft κ₂ q₂) ⊛ ‵ (flft κ₃ q₃))
-      ∷ (‵ (MutSlice (named 0) κ₀ u64 .own xF (sl xF ∷ [])) ⊛ ‵ (MutSlice (named 1) κ₁ u64 .own xD (sl xD ∷ [])) ⊛ ‵ (MutSlice (named 2) κ₂ u64 .own xS (sl xS ∷ [])) ⊛ ‵ (MutSlice (named 3) κ₃ u32 .own xE (sl xE ∷ []))) ∷ []) ∵
+      ∷ (‵ (MutSlice (named 0) κ₀ u64 .own xF (slice-val xF ∷ [])) ⊛ ‵ (MutSlice (named 1) κ₁ u64 .own xD (slice-val xD ∷ [])) ⊛ ‵ (MutSlice (named 2) κ₂ u64 .own xS (slice-val xS ∷ [])) ⊛ ‵ (MutSlice (named 3) κ₃ u32 .own xE (slice-val xE ∷ []))) ∷ []) ∵
       split ! $ move ! (1 ∷ []) $ split ! $ move ! (1 ∷ []) $ split ! $ nothing ! $
       -- [true; κ₂; κ₃; κ₁; κ₀; the slices]
       move ! (2 ∷ 0 ∷ []) $ join ! $ move ! (1 ∷ 0 ∷ []) $ join ! $ move ! (1 ∷ 0 ∷ []) $ join ! $ move ! (1 ∷ 0 ∷ []) $ join ! $
@@ -158,11 +144,11 @@ module _ {M : Type 1} (𝓤 : URA M) (H : Heap 𝓤) (A : Atoms 𝓤) (W : Given
 
   module _ (C : Calls 𝓤 H) (Λ : Loops 𝓤 H) (fm : FmC 𝓤 H (W .laws) C) (known : Triple 𝓤 (C #entry·answer_ask) (Core 𝓤 H A at-mem run)) where
     walk : Room u64 (length (xF .now)) → Room u64 (length (xD .now)) → Room u64 (length (xS .now)) → Room u32 (length (xE .now))
-        → ent 𝓤 (onEntry 𝓤 H A f.signature (κ₀, (κ₁, (κ₂, (κ₃, (κ′, tt))))) (q₀, (q₁, (q₂, (q₃, (q′, tt))))) a at) (WpFn 𝓤 H C Λ code.function (base-val base ∷ sl xF ∷ sl xD ∷ sl xS ∷ sl xE ∷ vptr b o ∷ ask-val k ∷ []) Post)
+        → ent 𝓤 (onEntry 𝓤 H A f.signature (κ₀, (κ₁, (κ₂, (κ₃, (κ′, tt))))) (q₀, (q₁, (q₂, (q₃, (q′, tt))))) a at) (WpFn 𝓤 H C Λ code.function (base-val base ∷ slice-val xF ∷ slice-val xD ∷ slice-val xS ∷ slice-val xE ∷ vptr b o ∷ ask-val k ∷ []) Post)
     walk roomF roomD roomS roomE =
         qed W ((‵ (flft κ₀ q₀) ⊛ ‵ (flft κ₁ q₁) ⊛ ‵ (flft κ₂ q₂) ⊛ ‵ (flft κ₃ q₃) ⊛ ‵ (flft κ′ q′) ⊛ ‵ ftrue)
         ∷ ‵ (owns (B.the-row ∷ MutSlice (named 0) κ₀ u64 ∷ MutSlice (named 1) κ₁ u64 ∷ MutSlice (named 2) κ₂ u64 ∷ MutSlice (named 3) κ₃ u32 ∷ MutRef (named 4) κ′ T.the-row ∷ K.the-row ∷ []) a at) ∷ []) ∵
-        enter ! C Λ code.function (base-val base ∷ sl xF ∷ sl xD ∷ sl xS ∷ sl xE ∷ vptr b o ∷ ask-val k ∷ []) _ $
+        enter ! C Λ code.function (base-val base ∷ slice-val xF ∷ slice-val xD ∷ slice-val xS ∷ slice-val xE ∷ vptr b o ∷ ask-val k ∷ []) _ $
         alloc1 ! (λ l₀. alloc1 ! (λ l₁. alloc1 ! (λ l₂. alloc1 ! (λ l₃. alloc1 ! (λ l₄. alloc1 ! (λ l₅. alloc1 ! (λ l₆. alloc1 ! (λ l₇. alloc1 ! (λ l₈. alloc1 ! (λ l₉. alloc1 ! (λ l₁₀. alloc1 ! (λ l₁₁. alloc1 ! (λ l₁₂. alloc1 ! (λ l₁₃. alloc1 ! (λ l₁₄. alloc1 ! (λ l₁₅. alloc1 ! (λ l₁₆. alloc1 ! (λ l₁₇. alloc0 ! $ params1 ! $
         pass1 ! (init ! 32 refl (LL.lawful B.the-type B′.the-laws 𝓤 H A W .typed base _ base-is .0)) $
         pass1 ! (init ! 30 refl (tt, (tt, (record { fits = roomF .0 }, tt)))) $ pass1 ! (init ! 28 refl (tt, (tt, (record { fits = roomD .0 }, tt)))) $ pass1 ! (init ! 26 refl (tt, (tt, (record { fits = roomS .0 }, tt)))) $ pass1 ! (init ! 24 refl (tt, (tt, (record { fits = roomE .0 }, tt)))) $

@@ -28,7 +28,7 @@ use denote.Memory.{mem}
 use denote.Builtin.{u32, u64}
 use denote.Ref.{RefT, MutRef}
 use denote.Lend.{lends-ref, ref-back}
-use denote.Slice.{sliceVal, MutSlice, Room, finally, slice-vals, mut-slice-tells}
+use denote.Slice.{MutSlice, Room, finally, slice-vals, mut-slice-tells}
 use denote.Signature.{plain}
 use denote.Steps.{only, owned, peeks, heard, nothing}
 use denote.Struct.Laws as LL
@@ -59,6 +59,7 @@ use Rattle.entry.specs.Asks.{askOf}
 use Rattle.entry.specs.declared.Ask.{Ask}
 use Rattle.entry.proofs.Ask as K
 use Rattle.entry.proofs.Ask.Laws as K′
+use Rattle.entry.proofs.Lent.{Slice, slice-val, base-val, ask-val, answer-val, answer-is}
 use Rattle.entry.proofs.Lies.{mach, lies-in, lies-out}
 use Rattle.entry.proofs.enter as within
 use Rattle.entry.proofs.enter.Symbol as within-def
@@ -76,16 +77,6 @@ stayed = (stay-none (λ _. B.the-row) yes, (gave-slice (0 ∷ []) tt (plain (λ 
 abbrev Enter : {M : Type 1} (𝓤 : URA M) (H : Heap 𝓤) (A : Atoms 𝓤) (mem : Memory → SProp 𝓤) (run : Routine → Fun 𝓤) → Contract 𝓤
 Enter 𝓤 H A mem run = tripleOf 𝓤 H A within.signature (within.spec 𝓤 H A mem run)
 
--- the machine values
-abbrev base-val : Hpa → Val
-base-val d = only (LL.vals B.the-type B′.the-laws d)
-
-abbrev ask-val : Ask → Val
-ask-val d = EL.val K.the-type K′.the-laws d
-
-abbrev answer-val : Answer → Val
-answer-val d = EL.val N.the-type N′.the-laws d
-
 -- what is returned, and its machine value
 abbrev reply : Answer → Gauge → Reply
 reply v z = record { answer = v; gauge = z }
@@ -96,18 +87,9 @@ reply-val v z = vstruct (vcons (answer-val v) (vcons (mach z) vnil))
 reply-is : (v : Answer) (z : Gauge) → Is N.the-row v (answer-val v ∷ []) → Is T.the-row z (mach z ∷ []) → Is S.the-row (reply v z) (reply-val v z ∷ [])
 reply-is v z v-is z-is = LL.owes S.the-type S′.the-laws (reply v z) (v-is, (z-is, tt))
 
-answer-is : (v : Answer) (w : Val) → Is N.the-row v (w ∷ []) → Is N.the-row v (answer-val v ∷ [])
-answer-is v w is = EL.owes N.the-type N′.the-laws v (EL.owed N.the-type N′.the-laws v (w ∷ []) is)
-
 module _ {M : Type 1} (𝓤 : URA M) (H : Heap 𝓤) (A : Atoms 𝓤) (W : Given 𝓤 H A) (at-mem : Memory → SProp 𝓤) (run : Routine → Fun 𝓤)
-    (κ₀ κ₁ κ₂ κ₃ : Lft) (q₀ q₁ q₂ q₃ : Share) (base : Hpa) (xF xD xS xE : RefT (List ℕ)) (h : Gauge) (k : Ask)
+    (κ₀ κ₁ κ₂ κ₃ : Lft) (q₀ q₁ q₂ q₃ : Share) (base : Hpa) (xF xD xS xE : Slice) (h : Gauge) (k : Ask)
     (base-is : Is B.the-row base (base-val base ∷ [])) (p : Is T.the-row h (mach h ∷ [])) (ask-is : Is K.the-row k (ask-val k ∷ [])) where
-  abbrev sl : RefT (List ℕ) → Val
-  sl x = sliceVal (x .ptr) (length (x .now))
-
-  abbrev Slice : Type 0
-  Slice = RefT (List ℕ)
-
   abbrev Arg : Type 0
   Arg = Hpa × (Slice × (Slice × (Slice × (Slice × (Gauge × (Ask × Unit {0}))))))
 
@@ -115,7 +97,7 @@ module _ {M : Type 1} (𝓤 : URA M) (H : Heap 𝓤) (A : Atoms 𝓤) (W : Given
   a = (base, (xF, (xD, (xS, (xE, (h, (k, tt)))))))
 
   abbrev at : List Val × (List Val × (List Val × (List Val × (List Val × (List Val × (List Val × Unit {0}))))))
-  at = (base-val base ∷ [], (sl xF ∷ [], (sl xD ∷ [], (sl xS ∷ [], (sl xE ∷ [], (mach h ∷ [], (ask-val k ∷ [], tt)))))))
+  at = (base-val base ∷ [], (slice-val xF ∷ [], (slice-val xD ∷ [], (slice-val xS ∷ [], (slice-val xE ∷ [], (mach h ∷ [], (ask-val k ∷ [], tt)))))))
 
   -- what `enter` ensures of its answer, the last words and the last gauge
   abbrev Said : Answer → Gauge → List ℕ → List ℕ → List ℕ → List ℕ → Type 0
@@ -143,14 +125,14 @@ module _ {M : Type 1} (𝓤 : URA M) (H : Heap 𝓤) (A : Atoms 𝓤) (W : Given
   r m δ = record { ptr = (m, 0); name = δ; now = h }
 
   abbrev to-enter : ℕ → ℕ → GName → Enter 𝓤 H A at-mem run .Ghost
-  to-enter ν m δ = (((κ₀, (κ₁, (κ₂, (κ₃, (ν ∷ [], tt))))), (q₀, (q₁, (q₂, (q₃, (fullShare, tt))))), tt, (base, (xF, (xD, (xS, (xE, (r m δ, (k, tt))))))), (base-val base ∷ [], (sl xF ∷ [], (sl xD ∷ [], (sl xS ∷ [], (sl xE ∷ [], (vptr m 0 ∷ [], (ask-val k ∷ [], tt)))))))), tt)
+  to-enter ν m δ = (((κ₀, (κ₁, (κ₂, (κ₃, (ν ∷ [], tt))))), (q₀, (q₁, (q₂, (q₃, (fullShare, tt))))), tt, (base, (xF, (xD, (xS, (xE, (r m δ, (k, tt))))))), (base-val base ∷ [], (slice-val xF ∷ [], (slice-val xD ∷ [], (slice-val xS ∷ [], (slice-val xE ∷ [], (vptr m 0 ∷ [], (ask-val k ∷ [], tt)))))))), tt)
 
   goes-enter : (ν m : ℕ) (δ : GName) → ent 𝓤 (⋆ 𝓤 H A ((‵ (flft κ₀ q₀) ⊛ ‵ (flft κ₁ q₁) ⊛ ‵ (flft κ₂ q₂) ⊛ ‵ (flft κ₃ q₃) ⊛ ‵ (flft (ν ∷ []) fullShare))
-      ∷ (‵ (MutSlice (named 0) κ₀ u64 .own xF (sl xF ∷ [])) ⊛ ‵ (MutSlice (named 1) κ₁ u64 .own xD (sl xD ∷ [])) ⊛ ‵ (MutSlice (named 2) κ₂ u64 .own xS (sl xS ∷ [])) ⊛ ‵ (MutSlice (named 3) κ₃ u32 .own xE (sl xE ∷ [])))
+      ∷ (‵ (MutSlice (named 0) κ₀ u64 .own xF (slice-val xF ∷ [])) ⊛ ‵ (MutSlice (named 1) κ₁ u64 .own xD (slice-val xD ∷ [])) ⊛ ‵ (MutSlice (named 2) κ₂ u64 .own xS (slice-val xS ∷ [])) ⊛ ‵ (MutSlice (named 3) κ₃ u32 .own xE (slice-val xE ∷ [])))
       ∷ ‵ (MutRef (named 4) (ν ∷ []) T.the-row .own (r m δ) (vptr m 0 ∷ [])) ∷ [])) (Enter 𝓤 H A at-mem run .pre (to-enter ν m δ))
   goes-enter ν m δ =
       qed W ((‵ (flft κ₀ q₀) ⊛ ‵ (flft κ₁ q₁) ⊛ ‵ (flft κ₂ q₂) ⊛ ‵ (flft κ₃ q₃) ⊛ ‵ (flft (ν ∷ []) fullShare))
-      ∷ (‵ (MutSlice (named 0) κ₀ u64 .own xF (sl xF ∷ [])) ⊛ ‵ (MutSlice (named 1) κ₁ u64 .own xD (sl xD ∷ [])) ⊛ ‵ (MutSlice (named 2) κ₂ u64 .own xS (sl xS ∷ [])) ⊛ ‵ (MutSlice (named 3) κ₃ u32 .own xE (sl xE ∷ [])))
+      ∷ (‵ (MutSlice (named 0) κ₀ u64 .own xF (slice-val xF ∷ [])) ⊛ ‵ (MutSlice (named 1) κ₁ u64 .own xD (slice-val xD ∷ [])) ⊛ ‵ (MutSlice (named 2) κ₂ u64 .own xS (slice-val xS ∷ [])) ⊛ ‵ (MutSlice (named 3) κ₃ u32 .own xE (slice-val xE ∷ [])))
       ∷ ‵ (MutRef (named 4) (ν ∷ []) T.the-row .own (r m δ) (vptr m 0 ∷ [])) ∷ []) ∵
       split ! $ move ! (1 ∷ []) $ split ! $ move ! (1 ∷ []) $ split ! $ move ! (1 ∷ []) $ split ! $ nothing ! $
       -- [true; κ₃; ν; κ₂; κ₁; κ₀; the slices; the reference]
@@ -164,11 +146,11 @@ module _ {M : Type 1} (𝓤 : URA M) (H : Heap 𝓤) (A : Atoms 𝓤) (W : Given
 
   module _ (C : Calls 𝓤 H) (Λ : Loops 𝓤 H) (fm : FmC 𝓤 H (W .laws) C) (known : Triple 𝓤 (C #entry·enter) (Enter 𝓤 H A at-mem run)) where
     walk : Room u64 (length (xF .now)) → Room u64 (length (xD .now)) → Room u64 (length (xS .now)) → Room u32 (length (xE .now))
-        → ent 𝓤 (onEntry 𝓤 H A f.signature (κ₀, (κ₁, (κ₂, (κ₃, tt)))) (q₀, (q₁, (q₂, (q₃, tt)))) a at) (WpFn 𝓤 H C Λ code.function (base-val base ∷ sl xF ∷ sl xD ∷ sl xS ∷ sl xE ∷ mach h ∷ ask-val k ∷ []) Post)
+        → ent 𝓤 (onEntry 𝓤 H A f.signature (κ₀, (κ₁, (κ₂, (κ₃, tt)))) (q₀, (q₁, (q₂, (q₃, tt)))) a at) (WpFn 𝓤 H C Λ code.function (base-val base ∷ slice-val xF ∷ slice-val xD ∷ slice-val xS ∷ slice-val xE ∷ mach h ∷ ask-val k ∷ []) Post)
     walk roomF roomD roomS roomE =
         qed W ((‵ (flft κ₀ q₀) ⊛ ‵ (flft κ₁ q₁) ⊛ ‵ (flft κ₂ q₂) ⊛ ‵ (flft κ₃ q₃) ⊛ ‵ ftrue)
         ∷ ‵ (owns (B.the-row ∷ MutSlice (named 0) κ₀ u64 ∷ MutSlice (named 1) κ₁ u64 ∷ MutSlice (named 2) κ₂ u64 ∷ MutSlice (named 3) κ₃ u32 ∷ T.the-row ∷ K.the-row ∷ []) a at) ∷ []) ∵
-        enter ! C Λ code.function (base-val base ∷ sl xF ∷ sl xD ∷ sl xS ∷ sl xE ∷ mach h ∷ ask-val k ∷ []) _ $
+        enter ! C Λ code.function (base-val base ∷ slice-val xF ∷ slice-val xD ∷ slice-val xS ∷ slice-val xE ∷ mach h ∷ ask-val k ∷ []) _ $
         alloc1 ! (λ l₀. alloc1 ! (λ l₁. alloc1 ! (λ l₂. alloc1 ! (λ l₃. alloc1 ! (λ l₄. alloc1 ! (λ l₅. alloc1 ! (λ l₆. alloc1 ! (λ l₇. alloc1 ! (λ l₈. alloc1 ! (λ l₉. alloc1 ! (λ l₁₀. alloc1 ! (λ l₁₁. alloc1 ! (λ l₁₂. alloc1 ! (λ l₁₃. alloc1 ! (λ l₁₄. alloc1 ! (λ l₁₅. alloc1 ! (λ l₁₆. alloc1 ! (λ l₁₇. alloc1 ! (λ l₁₈. alloc1 ! (λ l₁₉. alloc0 ! $ params1 ! $
         pass1 ! (init ! 36 refl (LL.lawful B.the-type B′.the-laws 𝓤 H A W .typed base _ base-is .0)) $
         pass1 ! (init ! 34 refl (tt, (tt, (record { fits = roomF .0 }, tt)))) $ pass1 ! (init ! 32 refl (tt, (tt, (record { fits = roomD .0 }, tt)))) $ pass1 ! (init ! 30 refl (tt, (tt, (record { fits = roomS .0 }, tt)))) $ pass1 ! (init ! 28 refl (tt, (tt, (record { fits = roomE .0 }, tt)))) $

@@ -24,7 +24,7 @@ use denote.RattleType.{owns}
 use denote.Laws.{Is, shows}
 use denote.Builtin.{u32, u64}
 use denote.Ref.{RefT, MutRef, ptr-vals, mut-tells}
-use denote.Slice.{sliceVal, MutSlice, Room, finally, slice-vals, mut-slice-tells}
+use denote.Slice.{MutSlice, Room, finally, slice-vals, mut-slice-tells}
 use denote.Signature.{plain}
 use denote.Steps.{only, owned, peeks, heard, nothing}
 use denote.Struct.Laws as LL
@@ -59,6 +59,7 @@ use Rattle.entry.specs.Asks.{askOf}
 use Rattle.entry.specs.declared.Ask.{Ask}
 use Rattle.entry.proofs.Ask as K
 use Rattle.entry.proofs.Ask.Laws as K′
+use Rattle.entry.proofs.Lent.{Slice, slice-val, base-val, ask-val, answer-val, ask-is, answer-is}
 use Rattle.entry.proofs.enter as second
 use Rattle.entry.proofs.enter.Symbol as second-def
 use Rattle.entry.proofs.enter.Symbol.{name as #entry·enter}
@@ -86,26 +87,11 @@ unfolding doorOf
 told base t last h z rq k v y ke e ye = ap (λ (u : Values). readOut u last z) ye ∙ ap shown e ∙ ap (λ (a : Ask). shown (askOf base t h a)) ke
 
 -- the machine values
-abbrev base-val : Hpa → Val
-base-val d = only (LL.vals B.the-type B′.the-laws d)
-
 abbrev request-val : Request → Val
 request-val d = only (LL.vals Q.the-type Q′.the-laws d)
 
-abbrev ask-val : Ask → Val
-ask-val d = EL.val K.the-type K′.the-laws d
-
-abbrev answer-val : Answer → Val
-answer-val d = EL.val N.the-type N′.the-laws d
-
 abbrev values-val : Values → Val
 values-val d = only (LL.vals Y.the-type Y′.the-laws d)
-
-ask-is : (k : Ask) (w : Val) → Is K.the-row k (w ∷ []) → Is K.the-row k (ask-val k ∷ [])
-ask-is k w is = EL.owes K.the-type K′.the-laws k (EL.owed K.the-type K′.the-laws k (w ∷ []) is)
-
-answer-is : (v : Answer) (w : Val) → Is N.the-row v (w ∷ []) → Is N.the-row v (answer-val v ∷ [])
-answer-is v w is = EL.owes N.the-type N′.the-laws v (EL.owed N.the-type N′.the-laws v (w ∷ []) is)
 
 values-is : (y : Values) (w : Val) → Is Y.the-row y (w ∷ []) → Is Y.the-row y (values-val y ∷ [])
 values-is y w is = LL.owes Y.the-type Y′.the-laws y (LL.owed Y.the-type Y′.the-laws y (w ∷ []) is)
@@ -128,16 +114,10 @@ module _ {M : Type 1} (𝓤 : URA M) (H : Heap 𝓤) (A : Atoms 𝓤) (mem : Mem
   third-of v y = exE 𝓤 _ (λ ws. snd∗ 𝓤 (sem 𝓤 H A (lasts third.ended tt (v, tt) ws)) (fact 𝓤 (y ≡ valuesOf v)))
 
 module _ {M : Type 1} (𝓤 : URA M) (H : Heap 𝓤) (A : Atoms 𝓤) (W : Given 𝓤 H A) (at-mem : Memory → SProp 𝓤) (run : Routine → Fun 𝓤)
-    (κ₀ κ₁ κ₂ κ₃ κ′ : Lft) (q₀ q₁ q₂ q₃ q′ : Share) (base : Hpa) (xF xD xS xE : RefT (List ℕ)) (g : RefT Gauge) (rq : Request)
+    (κ₀ κ₁ κ₂ κ₃ κ′ : Lft) (q₀ q₁ q₂ q₃ q′ : Share) (base : Hpa) (xF xD xS xE : Slice) (g : RefT Gauge) (rq : Request)
     (base-is : Is B.the-row base (base-val base ∷ [])) (rq-is : Is Q.the-row rq (request-val rq ∷ [])) where
-  abbrev sl : RefT (List ℕ) → Val
-  sl x = sliceVal (x .ptr) (length (x .now))
-
   abbrev ref : Val
   ref = vptr (g .ptr .0) (g .ptr .1)
-
-  abbrev Slice : Type 0
-  Slice = RefT (List ℕ)
 
   abbrev Arg : Type 0
   Arg = Hpa × (Slice × (Slice × (Slice × (Slice × (RefT Gauge × (Request × Unit {0}))))))
@@ -146,7 +126,7 @@ module _ {M : Type 1} (𝓤 : URA M) (H : Heap 𝓤) (A : Atoms 𝓤) (W : Given
   a = (base, (xF, (xD, (xS, (xE, (g, (rq, tt)))))))
 
   abbrev at : List Val × (List Val × (List Val × (List Val × (List Val × (List Val × (List Val × Unit {0}))))))
-  at = (base-val base ∷ [], (sl xF ∷ [], (sl xD ∷ [], (sl xS ∷ [], (sl xE ∷ [], (ref ∷ [], (request-val rq ∷ [], tt)))))))
+  at = (base-val base ∷ [], (slice-val xF ∷ [], (slice-val xD ∷ [], (slice-val xS ∷ [], (slice-val xE ∷ [], (ref ∷ [], (request-val rq ∷ [], tt)))))))
 
   -- what `enter` ensures of its answer, the last words and the last gauge
   abbrev Said : Ask → Answer → Gauge → List ℕ → List ℕ → List ℕ → List ℕ → Type 0
@@ -181,12 +161,12 @@ module _ {M : Type 1} (𝓤 : URA M) (H : Heap 𝓤) (A : Atoms 𝓤) (W : Given
   goes-third v = qed W (‵ (N.the-row .own v (answer-val v ∷ [])) ∷ []) ∵ nothing ! $ move ! (1 ∷ 0 ∷ []) $ fjoin ! $ nothing ! $ join ! $ frame ! $ done !
 
   abbrev to-second : Ask → Second 𝓤 H A at-mem run .Ghost
-  to-second k = (((κ₀, (κ₁, (κ₂, (κ₃, (κ′, tt))))), (q₀, (q₁, (q₂, (q₃, (q′, tt))))), tt, (base, (xF, (xD, (xS, (xE, (g, (k, tt))))))), (base-val base ∷ [], (sl xF ∷ [], (sl xD ∷ [], (sl xS ∷ [], (sl xE ∷ [], (ref ∷ [], (ask-val k ∷ [], tt)))))))), tt)
+  to-second k = (((κ₀, (κ₁, (κ₂, (κ₃, (κ′, tt))))), (q₀, (q₁, (q₂, (q₃, (q′, tt))))), tt, (base, (xF, (xD, (xS, (xE, (g, (k, tt))))))), (base-val base ∷ [], (slice-val xF ∷ [], (slice-val xD ∷ [], (slice-val xS ∷ [], (slice-val xE ∷ [], (ref ∷ [], (ask-val k ∷ [], tt)))))))), tt)
 
-  goes-second : (k : Ask) → Is K.the-row k (ask-val k ∷ []) → ent 𝓤 (⋆ 𝓤 H A ((‵ (MutSlice (named 0) κ₀ u64 .own xF (sl xF ∷ [])) ⊛ ‵ (MutSlice (named 1) κ₁ u64 .own xD (sl xD ∷ [])) ⊛ ‵ (MutSlice (named 2) κ₂ u64 .own xS (sl xS ∷ [])) ⊛ ‵ (MutSlice (named 3) κ₃ u32 .own xE (sl xE ∷ [])) ⊛ ‵ (MutRef (named 4) κ′ T.the-row .own g (ref ∷ [])))
+  goes-second : (k : Ask) → Is K.the-row k (ask-val k ∷ []) → ent 𝓤 (⋆ 𝓤 H A ((‵ (MutSlice (named 0) κ₀ u64 .own xF (slice-val xF ∷ [])) ⊛ ‵ (MutSlice (named 1) κ₁ u64 .own xD (slice-val xD ∷ [])) ⊛ ‵ (MutSlice (named 2) κ₂ u64 .own xS (slice-val xS ∷ [])) ⊛ ‵ (MutSlice (named 3) κ₃ u32 .own xE (slice-val xE ∷ [])) ⊛ ‵ (MutRef (named 4) κ′ T.the-row .own g (ref ∷ [])))
       ∷ (‵ (flft κ₀ q₀) ⊛ ‵ (flft κ₁ q₁) ⊛ ‵ (flft κ₂ q₂) ⊛ ‵ (flft κ₃ q₃) ⊛ ‵ (flft κ′ q′) ⊛ ‵ ftrue) ∷ [])) (Second 𝓤 H A at-mem run .pre (to-second k))
   goes-second k k-is =
-      qed W ((‵ (MutSlice (named 0) κ₀ u64 .own xF (sl xF ∷ [])) ⊛ ‵ (MutSlice (named 1) κ₁ u64 .own xD (sl xD ∷ [])) ⊛ ‵ (MutSlice (named 2) κ₂ u64 .own xS (sl xS ∷ [])) ⊛ ‵ (MutSlice (named 3) κ₃ u32 .own xE (sl xE ∷ [])) ⊛ ‵ (MutRef (named 4) κ′ T.the-row .own g (ref ∷ [])))
+      qed W ((‵ (MutSlice (named 0) κ₀ u64 .own xF (slice-val xF ∷ [])) ⊛ ‵ (MutSlice (named 1) κ₁ u64 .own xD (slice-val xD ∷ [])) ⊛ ‵ (MutSlice (named 2) κ₂ u64 .own xS (slice-val xS ∷ [])) ⊛ ‵ (MutSlice (named 3) κ₃ u32 .own xE (slice-val xE ∷ [])) ⊛ ‵ (MutRef (named 4) κ′ T.the-row .own g (ref ∷ [])))
       ∷ (‵ (flft κ₀ q₀) ⊛ ‵ (flft κ₁ q₁) ⊛ ‵ (flft κ₂ q₂) ⊛ ‵ (flft κ₃ q₃) ⊛ ‵ (flft κ′ q′) ⊛ ‵ ftrue) ∷ []) ∵
       split ! $ move ! (1 ∷ []) $ split ! $ move ! (1 ∷ []) $ split ! $ move ! (1 ∷ []) $ split ! $
       -- [E; the gauge; S; D; F; the tokens]
@@ -195,11 +175,11 @@ module _ {M : Type 1} (𝓤 : URA M) (H : Heap 𝓤) (A : Atoms 𝓤) (W : Given
 
   module _ (C : Calls 𝓤 H) (Λ : Loops 𝓤 H) (fm : FmC 𝓤 H (W .laws) C) (first-known : Triple 𝓤 (C #request·ask) (First 𝓤 H A at-mem run)) (second-known : Triple 𝓤 (C #entry·enter) (Second 𝓤 H A at-mem run)) (third-known : Triple 𝓤 (C #calls·values) (Third 𝓤 H A at-mem run)) where
     walk : Room u64 (length (xF .now)) → Room u64 (length (xD .now)) → Room u64 (length (xS .now)) → Room u32 (length (xE .now))
-        → ent 𝓤 (onEntry 𝓤 H A f.signature (κ₀, (κ₁, (κ₂, (κ₃, (κ′, tt))))) (q₀, (q₁, (q₂, (q₃, (q′, tt))))) a at) (WpFn 𝓤 H C Λ code.function (base-val base ∷ sl xF ∷ sl xD ∷ sl xS ∷ sl xE ∷ ref ∷ request-val rq ∷ []) Post)
+        → ent 𝓤 (onEntry 𝓤 H A f.signature (κ₀, (κ₁, (κ₂, (κ₃, (κ′, tt))))) (q₀, (q₁, (q₂, (q₃, (q′, tt))))) a at) (WpFn 𝓤 H C Λ code.function (base-val base ∷ slice-val xF ∷ slice-val xD ∷ slice-val xS ∷ slice-val xE ∷ ref ∷ request-val rq ∷ []) Post)
     walk roomF roomD roomS roomE =
         qed W ((‵ (flft κ₀ q₀) ⊛ ‵ (flft κ₁ q₁) ⊛ ‵ (flft κ₂ q₂) ⊛ ‵ (flft κ₃ q₃) ⊛ ‵ (flft κ′ q′) ⊛ ‵ ftrue)
         ∷ ‵ (owns (B.the-row ∷ MutSlice (named 0) κ₀ u64 ∷ MutSlice (named 1) κ₁ u64 ∷ MutSlice (named 2) κ₂ u64 ∷ MutSlice (named 3) κ₃ u32 ∷ MutRef (named 4) κ′ T.the-row ∷ Q.the-row ∷ []) a at) ∷ []) ∵
-        enter ! C Λ code.function (base-val base ∷ sl xF ∷ sl xD ∷ sl xS ∷ sl xE ∷ ref ∷ request-val rq ∷ []) _ $
+        enter ! C Λ code.function (base-val base ∷ slice-val xF ∷ slice-val xD ∷ slice-val xS ∷ slice-val xE ∷ ref ∷ request-val rq ∷ []) _ $
         alloc1 ! (λ l₀. alloc1 ! (λ l₁. alloc1 ! (λ l₂. alloc1 ! (λ l₃. alloc1 ! (λ l₄. alloc1 ! (λ l₅. alloc1 ! (λ l₆. alloc1 ! (λ l₇. alloc1 ! (λ l₈. alloc1 ! (λ l₉. alloc1 ! (λ l₁₀. alloc1 ! (λ l₁₁. alloc1 ! (λ l₁₂. alloc1 ! (λ l₁₃. alloc1 ! (λ l₁₄. alloc1 ! (λ l₁₅. alloc1 ! (λ l₁₆. alloc1 ! (λ l₁₇. alloc1 ! (λ l₁₈. alloc0 ! $ params1 ! $
         pass1 ! (init ! 34 refl (LL.lawful B.the-type B′.the-laws 𝓤 H A W .typed base _ base-is .0)) $
         pass1 ! (init ! 32 refl (tt, (tt, (record { fits = roomF .0 }, tt)))) $ pass1 ! (init ! 30 refl (tt, (tt, (record { fits = roomD .0 }, tt)))) $ pass1 ! (init ! 28 refl (tt, (tt, (record { fits = roomS .0 }, tt)))) $ pass1 ! (init ! 26 refl (tt, (tt, (record { fits = roomE .0 }, tt)))) $
