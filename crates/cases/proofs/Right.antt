@@ -1,7 +1,7 @@
 -- Every marked case answers as the paper says.
 use mathlib.Core.Path.{_≡_, refl, ap, _∙_}
-use mathlib.Core.Bool.{Bool, true, false}
-use mathlib.Core.List.{List, [], _∷_}
+use mathlib.Core.Bool.{true}
+use mathlib.Core.List.{[], _∷_}
 use lib.ListN.{length}
 use lib.Count.{ones}
 use Rattle.rules.specs.Rule.{iff, given}
@@ -10,7 +10,6 @@ use Rattle.units.specs.Limits.{between, framesOk, baseOk}
 use Rattle.units.specs.Address.{frameOf, hpaOf}
 use Rattle.units.specs.Level.{rowOf, gpaFits, indexAt}
 use Rattle.gauge.specs.Fill.{ratio}
-use Rattle.gauge.specs.Marks.{marksOk}
 use Rattle.gauge.specs.declared.Gauge.{Gauge}
 use Rattle.gauge.proofs.Laws.{program-ok}
 use Rattle.stock.specs.Bits.{wordOf, bitSet, inUse, withBit, setUse, lowestFrom, lowestUnused, onLowest, spareClear}

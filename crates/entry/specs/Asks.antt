@@ -1,5 +1,4 @@
 -- What each ask of a host comes to, on any lent tables and gauge.
-use lib.Ieee.{Float}
 use Rattle.units.specs.declared.address.Hpa.{Hpa}
 use Rattle.gauge.specs.declared.Gauge.{Gauge}
 use Rattle.ledger.specs.Tables.{Tables}

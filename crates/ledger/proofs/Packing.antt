@@ -3,7 +3,6 @@ use mathlib.Core.Path.{_≡_, refl}
 use Prim.Native.Nat.{ℕ, _+_, _*_, _/_, _%_, _^_, _<_}
 use native.Mathlib.Nat.{mod-mod, mod-add-div}
 use native.Mathlib.Omega.{arith}
-use Rattle.units.specs.declared.address.Pfn.{Pfn}
 use Rattle.ledger.specs.declared.words.Frame.{Frame}
 use Rattle.ledger.specs.declared.words.Domain.{Domain}
 use Rattle.ledger.specs.declared.words.Entry.{Entry}

@@ -1,6 +1,6 @@
 -- The calls on a domain's record, a row of "The calls" each.
 use Prim.Native.Nat.{ℕ, _+_, _-_, _/_}
-use mathlib.Core.Bool.{Bool, true, false, not}
+use mathlib.Core.Bool.{Bool, true}
 use lib.ListN.{length}
 use lib.Dec.{eqb, ltb, leb}
 use Rattle.rules.specs.Rule.{iff, need, given}

@@ -1,5 +1,4 @@
 -- reclaim and readpage: the calls on a frame alone.
-use Prim.Native.Nat.{ℕ}
 use lib.Dec.{eqb, ltb}
 use Rattle.rules.specs.Rule.{iff, need, given}
 use Rattle.units.specs.Address.{hpaOf}

@@ -4,7 +4,6 @@ use mathlib.Core.Bool.{Bool, true, false}
 use mathlib.Core.List.{List, [], _∷_}
 use mathlib.Core.Logic.{_⊎_, inl, inr}
 use Prim.Native.Nat.{ℕ}
-use native.Mathlib.Omega.{arith}
 use lib.ListN.{length}
 use Rattle.rules.specs.Rule.{iff}
 use Rattle.gauge.specs.Marks.{marksOk}
@@ -25,7 +24,7 @@ use Rattle.plan.specs.Trees.{septAt, pageAt, septaddPlan, pagePlan, blockAt, bl
 use Rattle.plan.specs.Pages.{reclaimTdr, reclaimChild, reclaimAt, reclaimPlan, readpagePlan}
 use Rattle.host.specs.Calls.{Outcome, outcome, planOf, settled, ruleOf, callOf}
 use Rattle.theorems.specs.Checks.{kindIs, window, ofTdr, ofChild, reads, checksOf, allChecks}
-use Rattle.theorems.specs.Order.{Reason, tables, marks, operand, domain, record′, lifecycle, pages, opState, offered, key, stopped, foreign, entry, untracked, frame, remain, stock, epoch, count, number, Check, check, firstNo, inOrder, Fails, here, later, Passes, none, one}
+use Rattle.theorems.specs.Order.{Reason, tables, marks, operand, Check, check, firstNo, inOrder, Fails, here, later, Passes, none, one}
 use Rattle.theorems.proofs.Firsts.{numberP, Numbers, window-first, spot-first, domain-first, owner-first, built-first, reach-first, walk-first, stock-first, child-first, needed, unless, either, both, named-is, done, page-read, entry-read}
 
 -- a call's plan answers with the number of its first check that fails

@@ -4,10 +4,9 @@ use mathlib.Core.Bool.{Bool, true, false, not}
 use mathlib.Core.List.{List, [], _∷_}
 use mathlib.Core.Logic.{_⊎_, inl, inr}
 use Prim.Native.Nat.{ℕ}
-use lib.ListN.{length}
 use lib.Dec.{eqb}
 use Rattle.rules.specs.Rule.{iff, given}
-use Rattle.units.specs.Limits.{between, controlPages}
+use Rattle.units.specs.Limits.{between}
 use Rattle.units.specs.Address.{frameOf}
 use Rattle.units.specs.Level.{levelOk, gpaFits}
 use Rattle.units.specs.declared.address.Hpa.{Hpa}
@@ -19,7 +18,7 @@ use Rattle.stock.specs.Bits.{inUse, onLowest}
 use Rattle.stock.specs.declared.bits.Lowest.{Lowest}
 use Rattle.stock.specs.declared.bits.Lowest.the-variants as lowest
 use Rattle.ledger.specs.Codes.{TDR}
-use Rattle.ledger.specs.Tables.{Tables, frameAt, domainAt, entryAt}
+use Rattle.ledger.specs.Tables.{Tables, frameAt, entryAt}
 use Rattle.ledger.specs.declared.words.Entry.{Entry}
 use Rattle.walk.specs.Walk.{onWalk}
 use Rattle.walk.specs.declared.Walk.{Walk}
@@ -38,7 +37,7 @@ use Rattle.plan.specs.declared.entry.Reach.the-variants as reach
 use Rattle.plan.specs.declared.edit.Edit.{Edit}
 use Rattle.plan.specs.declared.edit.Plan.{Plan}
 use Rattle.plan.specs.declared.edit.Plan.the-variants.{Say, Do}
-use Rattle.theorems.specs.Order.{Reason, operand, domain, record′, lifecycle, pages, opState, stopped, foreign, entry, stock, count, number, Check, check, firstNo}
+use Rattle.theorems.specs.Order.{Reason, operand, domain, record′, lifecycle, pages, opState, entry, stock, count, number, Check, check, firstNo}
 use Rattle.theorems.specs.Checks.{inWindow, named, domainOf, kindIs, goesOn, follows, arrived, isDomain, built, walked}
 
 -- the number that a plan answers

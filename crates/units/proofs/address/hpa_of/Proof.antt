@@ -1,7 +1,6 @@
 use native.Mathlib.Omega.{arith}
-use mathlib.Core.Path.{_≡_, ap}
-use Prim.Native.Nat.{ℕ, _+_, _*_, _%_, _^_}
-use Rattle.units.specs.declared.address.Hpa.{Hpa}
+use mathlib.Core.Path.{ap}
+use Prim.Native.Nat.{ℕ}
 use Rattle.units.specs.Address.{hpaOf}
 use borrow.Author.Needs.{needs}
 use Rattle.units.proofs.address.hpa_of.Statement.{statement}

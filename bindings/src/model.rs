@@ -1,0 +1,422 @@
+//! The model: buffers of its own, and a method for each call.
+
+use crate::answer::{Entry, Page, Refusal, Reply};
+use crate::call::Call;
+use crate::gauge::Gauge;
+use crate::raw::{self, number, Answer, Request};
+use crate::units::{Gpa, Hpa, Key, Level, Window};
+
+const RECORD_WORDS: usize = 5;
+const TABLE_ENTRIES: usize = 512;
+
+/// The most that the library takes.
+const FRAMES_MOST: usize = 4096;
+const RECORDS_MOST: usize = 16;
+const TABLES_MOST: usize = 64;
+
+/// All that a model stores: what is lent to the library at each call.
+/// `docs/TABLES.md` of the repository says what each word holds.
+#[derive(Clone, Debug, PartialEq)]
+pub struct Parts {
+    /// Address of frame 0.
+    pub base: Hpa,
+    /// A word for each frame.
+    pub frames: Vec<u64>,
+    /// Words 5 for each domain record.
+    pub domains: Vec<u64>,
+    /// A bit for each table and, behind them, for each record: whether it is in
+    /// use.
+    pub stock: Vec<u64>,
+    /// Words 512 for each table and, behind them, for each record's root.
+    pub entries: Vec<u32>,
+    /// The fill gauge.
+    pub gauge: Gauge,
+}
+
+/// The ownership tables and the gauge, with a method for each call.
+///
+/// In every call `domain` is the address of the domain's TDR, `frame` that of a
+/// frame. A domain is live when its keys are configured, it has four control
+/// pages, and it is initialized or runnable. A refused call changes nothing. An
+/// accepted one, even one that reads, stores the fill and may move the lamp.
+///
+/// ```
+/// use reefnettle::{FrameType, Frame, Hpa, Key, Model, Refusal};
+///
+/// let mut model = Model::fresh(Hpa(1 << 30), 1024, 4, 12)?;
+/// let [domain, page] = [0, 1].map(|n| model.window().hpa(Frame(n)).unwrap());
+/// model.create(domain, Key(32))?;
+/// model.keyconfig(domain)?;
+/// model.addcx(domain, page)?;
+/// assert_eq!(model.readpage(page)?.kind, FrameType::Tdcx);
+/// assert_eq!(model.readpage(page)?.owner, Some(domain));
+/// assert_eq!(model.init(domain), Err(Refusal::ControlPages)); // it takes four
+/// assert_eq!(model.gauge().fill, 2.0 / 1024.0);
+/// # Ok::<(), Refusal>(())
+/// ```
+#[derive(Clone, Debug, PartialEq)]
+pub struct Model {
+    lent: Parts,
+}
+
+impl Model {
+    /// A fresh start: all frames free, all stock unused.
+    ///
+    /// Frames are a power of two, 512 to 4096, records 1 to 16, tables 4 to 64,
+    /// the base a multiple of bytes 2^30, from 2^30 to 2^46; else
+    /// [`Refusal::OutOfRange`].
+    ///
+    /// ```
+    /// use reefnettle::{Hpa, Model, Refusal};
+    ///
+    /// assert!(Model::fresh(Hpa(1 << 46), 4096, 16, 64).is_ok());
+    /// assert_eq!(Model::fresh(Hpa(1 << 30), 1000, 4, 12), Err(Refusal::OutOfRange));
+    /// ```
+    pub fn fresh(
+        base: Hpa,
+        frames: usize,
+        records: usize,
+        tables: usize,
+    ) -> Result<Model, Refusal> {
+        // Nothing is allocated that the library would only refuse.
+        if frames > FRAMES_MOST || records > RECORDS_MOST || tables > TABLES_MOST {
+            return Err(Refusal::OutOfRange);
+        }
+        let blocks = tables + records;
+        let mut model = Model::from_parts(Parts {
+            base,
+            frames: vec![0; frames],
+            domains: vec![0; RECORD_WORDS * records],
+            stock: vec![0; blocks.div_ceil(u64::BITS as usize)],
+            entries: vec![0; TABLE_ENTRIES * blocks],
+            gauge: Gauge::FRESH,
+        });
+        model.reset()?;
+        Ok(model)
+    }
+
+    /// A model of any contents and any lengths. They aren't judged here: each
+    /// call judges them and refuses what is out of range.
+    ///
+    /// ```
+    /// use reefnettle::{Hpa, Model, Refusal};
+    ///
+    /// let mut parts = Model::fresh(Hpa(1 << 30), 1024, 4, 12)?.into_parts();
+    /// parts.frames[7] = 5; // there is no type 5
+    /// let mut model = Model::from_parts(parts);
+    /// assert_eq!(model.readpage(Hpa(1 << 30)), Err(Refusal::OutOfRange));
+    /// # Ok::<(), Refusal>(())
+    /// ```
+    pub fn from_parts(parts: Parts) -> Model {
+        Model { lent: parts }
+    }
+
+    /// All that is stored, given back.
+    pub fn into_parts(self) -> Parts {
+        self.lent
+    }
+
+    /// All that is stored, to look at.
+    pub fn parts(&self) -> &Parts {
+        &self.lent
+    }
+
+    /// The gauge after the last accepted call.
+    pub fn gauge(&self) -> Gauge {
+        self.lent.gauge
+    }
+
+    /// The window of frames, which converts between frames and addresses.
+    pub fn window(&self) -> Window {
+        Window {
+            base: self.lent.base,
+            frames: self.lent.frames.len(),
+        }
+    }
+
+    /// Asks the library in its own numbers.
+    ///
+    /// ```
+    /// use reefnettle::raw::Request;
+    /// use reefnettle::{Hpa, Model};
+    ///
+    /// let mut model = Model::fresh(Hpa(1 << 30), 1024, 4, 12)?;
+    /// let request = Request { call: 20, ..Request::default() };
+    /// assert_eq!(model.ask_raw(request).number, 15); // there is no call 20
+    /// # Ok::<(), reefnettle::Refusal>(())
+    /// ```
+    pub fn ask_raw(&mut self, request: Request) -> Answer {
+        raw::ask(&mut self.lent, request)
+    }
+
+    /// Asks any call.
+    ///
+    /// ```
+    /// use reefnettle::{Call, FrameType, Hpa, Model, Page, Reply};
+    ///
+    /// let mut model = Model::fresh(Hpa(1 << 30), 1024, 4, 12)?;
+    /// let reply = model.ask(&Call::ReadPage { frame: Hpa(1 << 30) })?;
+    /// assert_eq!(reply, Reply::Page(Page { kind: FrameType::Nda, owner: None }));
+    /// # Ok::<(), reefnettle::Refusal>(())
+    /// ```
+    pub fn ask(&mut self, call: &Call) -> Result<Reply, Refusal> {
+        match *call {
+            Call::Reset => self.reset()?,
+            Call::SetMarks { raise, clear } => self.set_marks(raise, clear)?,
+            Call::Create { frame, key } => self.create(frame, key)?,
+            Call::KeyConfig { domain } => self.keyconfig(domain)?,
+            Call::AddCx { domain, frame } => self.addcx(domain, frame)?,
+            Call::Init { domain } => self.init(domain)?,
+            Call::SeptAdd {
+                domain,
+                gpa,
+                level,
+                frame,
+            } => self.septadd(domain, gpa, level, frame)?,
+            Call::PageAdd { domain, gpa, frame } => self.pageadd(domain, gpa, frame)?,
+            Call::Finalize { domain } => self.finalize(domain)?,
+            Call::PageAug { domain, gpa, frame } => self.pageaug(domain, gpa, frame)?,
+            Call::Block { domain, gpa, level } => self.block(domain, gpa, level)?,
+            Call::Track { domain } => self.track(domain)?,
+            Call::Unblock { domain, gpa, level } => self.unblock(domain, gpa, level)?,
+            Call::PageRemove { domain, gpa } => self.pageremove(domain, gpa)?,
+            Call::SeptRemove { domain, gpa, level } => self.septremove(domain, gpa, level)?,
+            Call::FlushDone { domain } => self.flushdone(domain)?,
+            Call::KeyFree { domain } => self.keyfree(domain)?,
+            Call::Reclaim { frame } => self.reclaim(frame)?,
+            Call::ReadPage { frame } => return self.readpage(frame).map(Reply::Page),
+            Call::ReadEntry { domain, gpa, level } => {
+                return self.readentry(domain, gpa, level).map(Reply::Entry);
+            }
+        }
+        Ok(Reply::Done)
+    }
+
+    /// Makes all frames NDA, all stock unused and every stored number zero; the
+    /// raise mark becomes 1, the clear mark 0. It reads nothing stored, so it is
+    /// refused for sizes and base alone.
+    pub fn reset(&mut self) -> Result<(), Refusal> {
+        self.accept(Request {
+            call: number::RESET,
+            ..Request::default()
+        })
+    }
+
+    /// Sets the gauge's marks, and lights the lamp exactly if the fill is at or
+    /// above the raise mark. It reads nothing of the old gauge.
+    ///
+    /// ```
+    /// use reefnettle::{Hpa, Model, Refusal};
+    ///
+    /// let mut model = Model::fresh(Hpa(1 << 30), 1024, 4, 12)?;
+    /// model.set_marks(0.75, 0.5)?;
+    /// assert_eq!(model.set_marks(0.3, 0.1), Err(Refusal::Operand)); // no whole frames of 1024
+    /// # Ok::<(), Refusal>(())
+    /// ```
+    pub fn set_marks(&mut self, raise: f64, clear: f64) -> Result<(), Refusal> {
+        self.accept(Request {
+            call: number::SET_MARKS,
+            raise,
+            clear,
+            ..Request::default()
+        })
+    }
+
+    /// Makes an NDA frame the TDR of a new domain, with a key that no domain
+    /// before teardown has.
+    pub fn create(&mut self, frame: Hpa, key: Key) -> Result<(), Refusal> {
+        self.accept(Request {
+            call: number::CREATE,
+            frame,
+            key,
+            ..Request::default()
+        })
+    }
+
+    /// Configures the key of a domain that has one assigned.
+    pub fn keyconfig(&mut self, domain: Hpa) -> Result<(), Refusal> {
+        self.accept_on_domain(number::KEYCONFIG, domain)
+    }
+
+    /// Makes an NDA frame a control page of a domain with configured keys, up to
+    /// the fourth.
+    pub fn addcx(&mut self, domain: Hpa, frame: Hpa) -> Result<(), Refusal> {
+        self.accept(Request {
+            call: number::ADDCX,
+            domain,
+            frame,
+            ..Request::default()
+        })
+    }
+
+    /// Initializes a domain with four control pages.
+    pub fn init(&mut self, domain: Hpa) -> Result<(), Refusal> {
+        self.accept_on_domain(number::INIT, domain)
+    }
+
+    /// Makes an NDA frame a Secure EPT table of a live domain, at level 1 to 3;
+    /// the FREE entry there becomes NL_MAPPED.
+    pub fn septadd(
+        &mut self,
+        domain: Hpa,
+        gpa: Gpa,
+        level: Level,
+        frame: Hpa,
+    ) -> Result<(), Refusal> {
+        self.accept(Request {
+            call: number::SEPTADD,
+            domain,
+            gpa,
+            level,
+            frame,
+            ..Request::default()
+        })
+    }
+
+    /// Makes an NDA frame a page of an initialized domain; the FREE entry at
+    /// level 0 becomes MAPPED.
+    pub fn pageadd(&mut self, domain: Hpa, gpa: Gpa, frame: Hpa) -> Result<(), Refusal> {
+        self.accept(Request {
+            call: number::PAGEADD,
+            domain,
+            gpa,
+            frame,
+            ..Request::default()
+        })
+    }
+
+    /// Makes an initialized domain runnable.
+    pub fn finalize(&mut self, domain: Hpa) -> Result<(), Refusal> {
+        self.accept_on_domain(number::FINALIZE, domain)
+    }
+
+    /// Makes an NDA frame a page of a runnable domain; the FREE entry at level 0
+    /// becomes PENDING.
+    pub fn pageaug(&mut self, domain: Hpa, gpa: Gpa, frame: Hpa) -> Result<(), Refusal> {
+        self.accept(Request {
+            call: number::PAGEAUG,
+            domain,
+            gpa,
+            frame,
+            ..Request::default()
+        })
+    }
+
+    /// Blocks an entry that is NL_MAPPED, MAPPED or PENDING, at level 0 to 3; its
+    /// frame notes the domain's epoch.
+    pub fn block(&mut self, domain: Hpa, gpa: Gpa, level: Level) -> Result<(), Refusal> {
+        self.accept_on_entry(number::BLOCK, domain, gpa, level)
+    }
+
+    /// Moves the epoch of a live domain on. What was blocked before is then
+    /// tracked.
+    pub fn track(&mut self, domain: Hpa) -> Result<(), Refusal> {
+        self.accept_on_domain(number::TRACK, domain)
+    }
+
+    /// Unblocks a blocked and tracked entry, at level 0 to 3.
+    pub fn unblock(&mut self, domain: Hpa, gpa: Gpa, level: Level) -> Result<(), Refusal> {
+        self.accept_on_entry(number::UNBLOCK, domain, gpa, level)
+    }
+
+    /// Frees a blocked and tracked page.
+    pub fn pageremove(&mut self, domain: Hpa, gpa: Gpa) -> Result<(), Refusal> {
+        self.accept(Request {
+            call: number::PAGEREMOVE,
+            domain,
+            gpa,
+            ..Request::default()
+        })
+    }
+
+    /// Frees a blocked, tracked and empty Secure EPT table, at level 1 to 3.
+    pub fn septremove(&mut self, domain: Hpa, gpa: Gpa, level: Level) -> Result<(), Refusal> {
+        self.accept_on_entry(number::SEPTREMOVE, domain, gpa, level)
+    }
+
+    /// Blocks a domain for good. It keeps its key.
+    pub fn flushdone(&mut self, domain: Hpa) -> Result<(), Refusal> {
+        self.accept_on_domain(number::FLUSHDONE, domain)
+    }
+
+    /// Frees the key of a blocked domain, which is then in teardown.
+    pub fn keyfree(&mut self, domain: Hpa) -> Result<(), Refusal> {
+        self.accept_on_domain(number::KEYFREE, domain)
+    }
+
+    /// Frees a frame of a domain in teardown, the TDR itself last of all.
+    pub fn reclaim(&mut self, frame: Hpa) -> Result<(), Refusal> {
+        self.accept(Request {
+            call: number::RECLAIM,
+            frame,
+            ..Request::default()
+        })
+    }
+
+    /// Reads what a frame is, and who owns it.
+    pub fn readpage(&mut self, frame: Hpa) -> Result<Page, Refusal> {
+        let request = Request {
+            call: number::READPAGE,
+            frame,
+            ..Request::default()
+        };
+        self.ask_raw(request).judged().map(Answer::page)
+    }
+
+    /// Reads an entry of a live domain, at level 0 to 3.
+    ///
+    /// ```
+    /// use reefnettle::{EntryState, Frame, Gpa, Hpa, Key, Level, Model, Refusal};
+    ///
+    /// let mut model = Model::fresh(Hpa(1 << 30), 1024, 4, 12)?;
+    /// let [domain, a, b, c, d, table] = [0, 1, 2, 3, 4, 5].map(|n| model.window().hpa(Frame(n)).unwrap());
+    /// model.create(domain, Key(32))?;
+    /// model.keyconfig(domain)?;
+    /// for page in [a, b, c, d] {
+    ///     model.addcx(domain, page)?;
+    /// }
+    /// model.init(domain)?;
+    /// model.septadd(domain, Gpa(0), Level(3), table)?;
+    /// let entry = model.readentry(domain, Gpa(0), Level(3))?;
+    /// assert_eq!((entry.state, entry.hpa), (EntryState::NlMapped, Some(table)));
+    /// let stopped = Refusal::WalkStopped { level: Level(2), state: EntryState::Free };
+    /// assert_eq!(model.readentry(domain, Gpa(0), Level(1)), Err(stopped));
+    /// # Ok::<(), Refusal>(())
+    /// ```
+    pub fn readentry(&mut self, domain: Hpa, gpa: Gpa, level: Level) -> Result<Entry, Refusal> {
+        let request = on_entry(number::READENTRY, domain, gpa, level);
+        self.ask_raw(request).judged().map(Answer::entry)
+    }
+
+    fn accept(&mut self, request: Request) -> Result<(), Refusal> {
+        self.ask_raw(request).judged().map(|_| ())
+    }
+
+    fn accept_on_domain(&mut self, call: u64, domain: Hpa) -> Result<(), Refusal> {
+        self.accept(Request {
+            call,
+            domain,
+            ..Request::default()
+        })
+    }
+
+    fn accept_on_entry(
+        &mut self,
+        call: u64,
+        domain: Hpa,
+        gpa: Gpa,
+        level: Level,
+    ) -> Result<(), Refusal> {
+        self.accept(on_entry(call, domain, gpa, level))
+    }
+}
+
+fn on_entry(call: u64, domain: Hpa, gpa: Gpa, level: Level) -> Request {
+    Request {
+        call,
+        domain,
+        gpa,
+        level,
+        ..Request::default()
+    }
+}

@@ -1,0 +1,175 @@
+//! Every call by its method, and the refusals that carry numbers.
+
+use reefnettle::raw::Request;
+use reefnettle::{
+    Call, Entry, EntryState, Frame, FrameType, Gauge, Gpa, Hpa, Key, Level, Model, Page, Parts,
+    Refusal,
+};
+
+const BASE: Hpa = Hpa(1 << 30);
+
+fn fresh() -> Model {
+    Model::fresh(BASE, 1024, 4, 12).unwrap()
+}
+
+fn hpa(frame: usize) -> Hpa {
+    fresh().window().hpa(Frame(frame)).unwrap()
+}
+
+/// A domain with key 32: TDR frame 0, control pages in frames 1 to 4, tables of
+/// levels 3, 2 and 1 in frames 5 to 7, a page at gpa 0 in frame 8.
+fn built() -> Model {
+    let mut model = fresh();
+    let domain = hpa(0);
+    model.create(domain, Key(32)).unwrap();
+    model.keyconfig(domain).unwrap();
+    for page in 1..=4 {
+        model.addcx(domain, hpa(page)).unwrap();
+    }
+    model.init(domain).unwrap();
+    for (level, table) in [(3, 5), (2, 6), (1, 7)] {
+        let level = Level(level);
+        model.septadd(domain, Gpa(0), level, hpa(table)).unwrap();
+    }
+    model.pageadd(domain, Gpa(0), hpa(8)).unwrap();
+    model
+}
+
+fn entry(level: usize, state: EntryState, hpa: Option<Hpa>) -> Result<Entry, Refusal> {
+    let level = Level(level);
+    Ok(Entry { level, state, hpa })
+}
+
+#[test]
+fn a_page_comes_and_goes() -> Result<(), Refusal> {
+    let (mut model, domain, gpa, page) = (built(), hpa(0), Gpa(4096), Level(0));
+    model.finalize(domain)?;
+    model.pageaug(domain, gpa, hpa(9))?;
+    let pending = entry(0, EntryState::Pending, Some(hpa(9)));
+    assert_eq!(model.readentry(domain, gpa, page), pending);
+    model.block(domain, gpa, page)?;
+    assert_eq!(model.pageremove(domain, gpa), Err(Refusal::NotTracked));
+    model.track(domain)?;
+    model.unblock(domain, gpa, page)?;
+    assert_eq!(model.readentry(domain, gpa, page), pending);
+    model.block(domain, gpa, page)?;
+    model.track(domain)?;
+    model.pageremove(domain, gpa)?;
+    assert_eq!(
+        model.readentry(domain, gpa, page),
+        entry(0, EntryState::Free, None)
+    );
+    Ok(())
+}
+
+#[test]
+fn a_table_goes_when_it_is_empty() -> Result<(), Refusal> {
+    let (mut model, domain) = (built(), hpa(0));
+    let (table, gpa) = (Level(1), Gpa(2097152));
+    model.septadd(domain, gpa, table, hpa(9))?;
+    for gpa in [Gpa(0), gpa] {
+        model.block(domain, gpa, table)?;
+    }
+    model.track(domain)?;
+    let full = model.septremove(domain, Gpa(0), table);
+    assert_eq!(full, Err(Refusal::PagesRemain));
+    model.septremove(domain, gpa, table)?;
+    assert_eq!(model.readpage(hpa(9))?.kind, FrameType::Nda);
+    Ok(())
+}
+
+#[test]
+fn a_domain_is_wound_down() -> Result<(), Refusal> {
+    let (mut model, domain) = (built(), hpa(0));
+    model.flushdone(domain)?;
+    assert_eq!(model.reclaim(hpa(8)), Err(Refusal::Lifecycle));
+    model.keyfree(domain)?;
+    for frame in (1..=8).rev() {
+        model.reclaim(hpa(frame))?;
+    }
+    model.reclaim(domain)?;
+    let free = Page {
+        kind: FrameType::Nda,
+        owner: None,
+    };
+    assert_eq!(model.readpage(domain)?, free);
+    assert_eq!(model.gauge().fill, 0.0);
+    Ok(())
+}
+
+#[test]
+fn refusals_read_out_level_and_state() {
+    let (mut model, domain) = (built(), hpa(0));
+    let stopped = model.readentry(domain, Gpa(1 << 30), Level(1));
+    let (level, state) = (Level(2), EntryState::Free);
+    assert_eq!(stopped, Err(Refusal::WalkStopped { level, state }));
+    let taken = model.pageadd(domain, Gpa(0), hpa(9));
+    let (level, state) = (Level(0), EntryState::Mapped);
+    assert_eq!(taken, Err(Refusal::WrongState { level, state }));
+    assert_eq!(
+        taken.unwrap_err().to_string(),
+        "the entry's state is wrong for the call, at level 0 state 2"
+    );
+}
+
+#[test]
+fn marks_light_the_lamp() -> Result<(), Refusal> {
+    let mut model = built();
+    model.set_marks(9.0 / 1024.0, 8.0 / 1024.0)?;
+    assert!(model.gauge().lamp);
+    assert_eq!(model.set_marks(0.3, 0.1), Err(Refusal::Operand));
+    model.ask(&Call::Reset)?;
+    assert_eq!(model.gauge(), Gauge::FRESH);
+    Ok(())
+}
+
+#[test]
+fn fresh_models_keep_to_the_limits() {
+    let sizes = |frames, records, tables| Model::fresh(BASE, frames, records, tables).map(|_| ());
+    assert_eq!(sizes(512, 1, 4), Ok(()));
+    assert_eq!(sizes(4096, 16, 64), Ok(()));
+    for (frames, records, tables) in [
+        (256, 1, 4),
+        (1000, 1, 4),
+        (8192, 1, 4),
+        (512, 0, 4),
+        (512, 17, 4),
+        (512, 1, 3),
+        (512, 1, 65),
+        (usize::MAX, usize::MAX, usize::MAX),
+    ] {
+        assert_eq!(sizes(frames, records, tables), Err(Refusal::OutOfRange));
+    }
+    let base = |bytes| Model::fresh(Hpa(bytes), 512, 1, 4).map(|_| ());
+    assert_eq!(base(1 << 46), Ok(()));
+    assert_eq!(base((1 << 30) + 4096), Err(Refusal::OutOfRange));
+}
+
+#[test]
+fn any_lengths_may_be_lent() {
+    let empty = Parts {
+        base: BASE,
+        frames: vec![],
+        domains: vec![],
+        stock: vec![],
+        entries: vec![],
+        gauge: Gauge::FRESH,
+    };
+    let mut model = Model::from_parts(empty.clone());
+    assert_eq!(model.reset(), Err(Refusal::OutOfRange));
+    assert_eq!(model.into_parts(), empty);
+}
+
+#[test]
+fn a_call_that_there_is_not_is_unreadable() {
+    let mut model = built();
+    let before = model.clone();
+    for call in [20, u64::MAX] {
+        let request = Request {
+            call,
+            ..Request::default()
+        };
+        assert_eq!(model.ask_raw(request).number, Refusal::Unreadable.number());
+    }
+    assert_eq!(model, before);
+}

@@ -1,0 +1,75 @@
+//! What was met, and what must have been.
+
+use std::collections::BTreeMap;
+use std::fmt::Display;
+
+use reefnettle::raw::number;
+
+use crate::places::Place;
+use crate::spoil::Spoil;
+
+const ANSWERS: u64 = 16;
+const CALLS: u64 = number::READENTRY + 1;
+
+/// Counts of what the cases met.
+#[derive(Default)]
+pub struct Tally {
+    pub cases: u64,
+    spoils: BTreeMap<Spoil, u64>,
+    accepted: BTreeMap<u64, u64>,
+    answers: BTreeMap<u64, u64>,
+    places: BTreeMap<Place, u64>,
+}
+
+impl Tally {
+    pub fn note(&mut self, spoil: Spoil, call: u64, answer: u64, place: Option<Place>) {
+        self.cases += 1;
+        *self.spoils.entry(spoil).or_default() += 1;
+        *self.answers.entry(answer).or_default() += 1;
+        if answer == 0 {
+            *self.accepted.entry(call).or_default() += 1;
+        }
+        if let Some(place) = place {
+            *self.places.entry(place).or_default() += 1;
+        }
+    }
+
+    /// Prints all counts; false if something was never met.
+    pub fn report(&self) -> bool {
+        println!("cases\t{}", self.cases);
+        let met = [
+            list(
+                "spoilt",
+                &self.spoils,
+                Spoil::ALL.map(|s| (s, format!("{s:?}"))),
+            ),
+            list("accepted call", &self.accepted, (0..CALLS).map(own_name)),
+            list("answer", &self.answers, (0..ANSWERS).map(own_name)),
+            list("place of 14", &self.places, Place::ALL.map(own_name)),
+        ];
+        met.iter().all(|&met| met)
+    }
+}
+
+fn own_name<T: Display>(item: T) -> (T, String) {
+    let name = item.to_string();
+    (item, name)
+}
+
+/// Prints how often each item was met; false if one never was.
+fn list<T: Ord>(
+    what: &str,
+    counts: &BTreeMap<T, u64>,
+    items: impl IntoIterator<Item = (T, String)>,
+) -> bool {
+    let mut all_met = true;
+    for (item, name) in items {
+        let count = counts.get(&item).copied().unwrap_or(0);
+        println!("{what}\t{name}\tmet\t{count}");
+        if count == 0 {
+            eprintln!("{what} {name} was never met");
+            all_met = false;
+        }
+    }
+    all_met
+}
