@@ -24,8 +24,8 @@ use Rattle.calls.specs.declared.Call.{Call}
 use Rattle.plan.specs.Lookup.{onPlace, onOperand, onLookup, frameOperand, spotOperands, domainFor, builtFor}
 use Rattle.plan.specs.Domains.{gain, lose, keyconfigPlan, initPlan, trackPlan, enlistAt, addcxPlan, otherKey, keyUnused, newRecord, createAt, createPlan}
 use Rattle.plan.specs.Entries.{entryFor, onReach, blockedState, isTracked}
-use Rattle.plan.specs.Trees as trees
-use Rattle.plan.specs.Trees.{septAt, septaddPlan, pagePlan, blockAt, blockPlan, pageremoveAt, pageremovePlan}
+use Rattle.trees.specs.Trees as trees
+use Rattle.trees.specs.Trees.{septAt, septaddPlan, pagePlan, blockAt, blockPlan, pageremoveAt, pageremovePlan}
 use Rattle.plan.specs.Pages.{readpagePlan}
 use Rattle.host.specs.Carry.{afterFrame, afterPage, afterDomain, afterEntry, afterUse, afterRecord, afterBlock, applied, carried}
 use Rattle.host.specs.Calls.{planOf, settled, ruleOf, callOf}

@@ -19,7 +19,7 @@ use Rattle.calls.specs.declared.Answer.the-variants.{Done, No}
 use Rattle.calls.specs.declared.Call.{Call}
 use Rattle.calls.specs.declared.Call.the-variants as call
 use Rattle.plan.specs.Domains as domains
-use Rattle.plan.specs.Trees as trees
+use Rattle.trees.specs.Trees as trees
 use Rattle.plan.specs.Pages as pages
 use Rattle.plan.specs.declared.edit.Plan.{Plan}
 use Rattle.host.specs.Carry.{Carried, carried}

@@ -15,7 +15,6 @@ use ledger::range;
 use plan::domain;
 use plan::edit::Plan;
 use plan::page;
-use plan::tree;
 use units::address::Hpa;
 
 // What a call answers, and the gauge after it.
@@ -39,7 +38,7 @@ fn plan_of(
         Call::KeyConfig(d) => domain::plan_keyconfig(base, frames, domains, stock, entries, d),
         Call::AddCx(d, f) => domain::plan_addcx(base, frames, domains, stock, entries, d, f),
         Call::Init(d) => domain::plan_init(base, frames, domains, stock, entries, d),
-        Call::SeptAdd(d, gpa, level, f) => tree::plan_septadd(
+        Call::SeptAdd(d, gpa, level, f) => trees::plan_septadd(
             base,
             frames,
             domains,
@@ -50,7 +49,7 @@ fn plan_of(
             level,
             f,
         ),
-        Call::PageAdd(d, gpa, f) => tree::plan_page(
+        Call::PageAdd(d, gpa, f) => trees::plan_page(
             base,
             frames,
             domains,
@@ -63,7 +62,7 @@ fn plan_of(
             MAPPED,
         ),
         Call::Finalize(d) => domain::plan_finalize(base, frames, domains, stock, entries, d),
-        Call::PageAug(d, gpa, f) => tree::plan_page(
+        Call::PageAug(d, gpa, f) => trees::plan_page(
             base,
             frames,
             domains,
@@ -75,7 +74,7 @@ fn plan_of(
             RUNNABLE,
             PENDING,
         ),
-        Call::Block(d, gpa, level) => tree::plan_block(
+        Call::Block(d, gpa, level) => trees::plan_block(
             base,
             frames,
             domains,
@@ -86,7 +85,7 @@ fn plan_of(
             level,
         ),
         Call::Track(d) => domain::plan_track(base, frames, domains, stock, entries, d),
-        Call::Unblock(d, gpa, level) => tree::plan_unblock(
+        Call::Unblock(d, gpa, level) => trees::plan_unblock(
             base,
             frames,
             domains,
@@ -96,7 +95,7 @@ fn plan_of(
             gpa,
             level,
         ),
-        Call::PageRemove(d, gpa) => tree::plan_pageremove(
+        Call::PageRemove(d, gpa) => trees::plan_pageremove(
             base,
             frames,
             domains,
@@ -105,7 +104,7 @@ fn plan_of(
             d,
             gpa,
         ),
-        Call::SeptRemove(d, gpa, level) => tree::plan_septremove(
+        Call::SeptRemove(d, gpa, level) => trees::plan_septremove(
             base,
             frames,
             domains,
@@ -119,7 +118,7 @@ fn plan_of(
         Call::KeyFree(d) => domain::plan_keyfree(base, frames, domains, stock, entries, d),
         Call::Reclaim(f) => page::plan_reclaim(base, frames, domains, stock, entries, f),
         Call::ReadPage(f) => page::plan_readpage(base, frames, domains, stock, entries, f),
-        Call::ReadEntry(d, gpa, level) => tree::plan_readentry(
+        Call::ReadEntry(d, gpa, level) => trees::plan_readentry(
             base,
             frames,
             domains,

@@ -34,7 +34,7 @@ use Rattle.plan.specs.Lookup.{onLookup, domainFor, builtFor, onPlace}
 use Rattle.plan.specs.Entries.{blockedState, unblockedState, tableEmpty, freeAt}
 use Rattle.plan.specs.Domains as plans
 use Rattle.plan.specs.Domains.{refuse, gain, lose}
-use Rattle.plan.specs.Trees as trees
+use Rattle.trees.specs.Trees as trees
 use Rattle.plan.specs.Pages as pages
 use Rattle.plan.specs.declared.lookup.Found.{Found as Looked}
 use Rattle.plan.specs.declared.edit.StockEdit.{StockEdit}

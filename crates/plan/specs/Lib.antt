@@ -2,5 +2,4 @@ pub mod Edits
 pub mod Lookup
 pub mod Domains
 pub mod Entries
-pub mod Trees
 pub mod Pages

@@ -5,4 +5,3 @@ pub mod edit;
 pub mod entry;
 pub mod lookup;
 pub mod page;
-pub mod tree;

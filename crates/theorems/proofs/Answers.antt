@@ -20,7 +20,7 @@ use Rattle.ledger.specs.Tables.{Tables}
 use Rattle.calls.specs.declared.Call.{Call}
 use Rattle.calls.specs.declared.Call.the-variants as call
 use Rattle.plan.specs.Domains.{gain, lose, keyconfigPlan, initPlan, finalizePlan, trackPlan, flushdonePlan, keyfreePlan, enlistAt, addcxPlan, newRecord, createAt, createPlan}
-use Rattle.plan.specs.Trees.{septAt, pageAt, septaddPlan, pagePlan, blockAt, blockPlan, unblockAt, unblockPlan, pageremoveAt, pageremovePlan, septremoveAt, septremovePlan, readentryAt, readentryPlan}
+use Rattle.trees.specs.Trees.{septAt, pageAt, septaddPlan, pagePlan, blockAt, blockPlan, unblockAt, unblockPlan, pageremoveAt, pageremovePlan, septremoveAt, septremovePlan, readentryAt, readentryPlan}
 use Rattle.plan.specs.Pages.{reclaimTdr, reclaimChild, reclaimAt, reclaimPlan, readpagePlan}
 use Rattle.host.specs.Calls.{Outcome, outcome, planOf, settled, ruleOf, callOf}
 use Rattle.theorems.specs.Checks.{kindIs, window, ofTdr, ofChild, reads, checksOf, allChecks}

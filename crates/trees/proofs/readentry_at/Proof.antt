@@ -1,0 +1,21 @@
+use Rattle.plan.proofs.Ons.{ons}
+use Rattle.trees.specs.Trees.{readentryAt}
+use borrow.Author.Needs.{needs}
+use Rattle.trees.proofs.readentry_at.Statement.{statement}
+use Rattle.trees.proofs.readentry_at.Tie as tie
+
+pub readentry-at-spec : {M : Type 1} → statement M
+unfolding readentryAt
+readentry-at-spec =
+    tie.close
+    (tie.spec
+    (λ c κs. search needs)
+    (λ c. search needs)
+    (λ c. search needs)
+    (λ c. search needs)
+    (λ c κs. search needs)
+    (λ c. search ons depth 16)
+    (λ c κs. search needs)
+    (λ c. search ons depth 16)
+    (λ c. search ons depth 16)
+    (λ c. search ons depth 16))

@@ -1,0 +1,150 @@
+-- The calls on a domain's tree, a row of "The calls" each. Page calls work at level 0.
+use Prim.Native.Nat.{ℕ}
+use lib.ListN.{length}
+use lib.Dec.{eqb}
+use Rattle.rules.specs.Rule.{iff, need, given}
+use Rattle.units.specs.Address.{hpaOf}
+use Rattle.units.specs.declared.address.Hpa.{Hpa}
+use Rattle.units.specs.declared.address.Gpa.{Gpa}
+use Rattle.units.specs.declared.address.Pfn.{Pfn}
+use Rattle.stock.specs.Bits.{lowestUnused, onLowest}
+use Rattle.ledger.specs.Codes.{NDA, INITIALIZED, RUNNABLE, FREE, NL-MAPPED, MAPPED, PENDING, NL-BLOCKED, BLOCKED, PENDING-BLOCKED}
+use Rattle.ledger.specs.Sizes.{tablesOf}
+use Rattle.ledger.specs.Tables.{Tables, frameAt, entryAt}
+use Rattle.ledger.specs.declared.words.Entry.{Entry}
+use Rattle.walk.specs.Walk.{ownFrame, onWalk}
+use Rattle.calls.specs.declared.Answer.the-variants as answer
+use Rattle.plan.specs.Edits.{edit, newEpt, newReg, withFrameEpoch, entry, freeEntry}
+use Rattle.plan.specs.Lookup.{onOperand, onLookup, spotOperands, builtFor, liveFor}
+use Rattle.plan.specs.Entries.{walkOf, entryFor, onReach, blockedState, unblockedState, isTracked, tableEmpty}
+use Rattle.plan.specs.Domains.{refuse, onFrame, gain, lose}
+use Rattle.plan.specs.declared.lookup.Found.{Found}
+use Rattle.plan.specs.declared.edit.FrameEdit.the-variants as frame
+use Rattle.plan.specs.declared.edit.PageEdit.the-variants as page
+use Rattle.plan.specs.declared.edit.DomainEdit.the-variants as domains
+use Rattle.plan.specs.declared.edit.StockEdit.the-variants as stock
+use Rattle.plan.specs.declared.edit.EntryEdit.the-variants as entries
+use Rattle.plan.specs.declared.edit.Plan.{Plan}
+use Rattle.plan.specs.declared.edit.Plan.the-variants.{Say, Do}
+
+-- D, a gpa and a level from `least` on
+abbrev pub onSpot : Hpa → Tables → Hpa → Gpa → ℕ → ℕ → (Pfn → Plan) → Plan
+onSpot base t d gpa level least next = onOperand (spotOperands base (length (t .frames)) d gpa level least) (refuse 1) next
+
+-- ---- gains: F NDA (F's 2, F being operand k), entry FREE (6, 14, 7), a table's 11, the count's 14
+unfoldable pub septAt : Tables → Found → Gpa → ℕ → Pfn → Plan
+septAt t x gpa level f =
+    given (frameAt (t .frames) f) λ fr.
+    need (eqb (fr .kind) NDA) (refuse 2 3) (
+    onReach (entryFor t x gpa level FREE FREE) Say λ b i e.
+    given (tablesOf (length (t .domains)) (length (t .entries))) λ tables.
+    onLowest (lowestUnused (t .stock) 0 tables) (refuse 11 0) λ table.
+    gain (length (t .frames)) x f (newEpt (x .tdr) table) page.Keep (x .dom .listed) (stock.Table table) (entries.Set b i (entry NL-MAPPED f)))
+
+unfoldable pub pageAt : Tables → Found → Gpa → Pfn → ℕ → Plan
+pageAt t x gpa f state =
+    given (frameAt (t .frames) f) λ fr.
+    need (eqb (fr .kind) NDA) (refuse 2 2) (
+    onReach (entryFor t x gpa 0 FREE FREE) Say λ b i e.
+    gain (length (t .frames)) x f (newReg (x .tdr)) page.Keep (x .dom .listed) stock.Keep (entries.Set b i (entry state f)))
+
+-- septadd: live, F NDA, entry FREE; F becomes EPT with a table; entry NL_MAPPED
+unfoldable pub septaddPlan : Hpa → Tables → Hpa → Gpa → ℕ → Hpa → Plan
+septaddPlan base t d gpa level f =
+    onSpot base t d gpa level 1 λ n.
+    onFrame base t f 3 λ m.
+    onLookup (liveFor t n) Say λ x.
+    septAt t x gpa level m
+
+-- pageadd and pageaug: live with an op state (5), F NDA, entry FREE; F becomes REG; the entry's new state
+unfoldable pub pagePlan : Hpa → Tables → Hpa → Gpa → Hpa → ℕ → ℕ → Plan
+pagePlan base t d gpa f op state =
+    onSpot base t d gpa 0 0 λ n.
+    onFrame base t f 2 λ m.
+    onLookup (builtFor t n op op) Say λ x.
+    pageAt t x gpa m state
+
+-- pageadd: initialized; MAPPED. pageaug: runnable; PENDING
+abbrev pub pageaddPlan : Hpa → Tables → Hpa → Gpa → Hpa → Plan
+pageaddPlan base t d gpa f = pagePlan base t d gpa f INITIALIZED MAPPED
+
+abbrev pub pageaugPlan : Hpa → Tables → Hpa → Gpa → Hpa → Plan
+pageaugPlan base t d gpa f = pagePlan base t d gpa f RUNNABLE PENDING
+
+-- ---- block: entry 1, 2 or 3, its frame's 14; entry 4, 5 or 6, and its frame's epoch := the domain's
+unfoldable pub blockAt : Tables → Found → Gpa → ℕ → Plan
+blockAt t x gpa level =
+    onReach (entryFor t x gpa level NL-MAPPED PENDING) Say λ b i e.
+    need (ownFrame (t .frames) (t .stock) (x .tdr) e) (refuse 14 0) (
+    given (frameAt (t .frames) (e .frame)) λ f.
+    given (withFrameEpoch f (x .dom .epoch)) λ since.
+    given (blockedState (e .state)) λ state.
+    Do (edit (frame.Set (e .frame) since) page.Keep domains.Keep stock.Keep (entries.Set b i (entry state (e .frame)))))
+
+unfoldable pub blockPlan : Hpa → Tables → Hpa → Gpa → ℕ → Plan
+blockPlan base t d gpa level =
+    onSpot base t d gpa level 0 λ n.
+    onLookup (liveFor t n) Say λ x.
+    blockAt t x gpa level
+
+-- unblock: entry 4, 5 or 6; tracked (8); its frame's 14; entry 1, 2 or 3
+unfoldable pub unblockAt : Tables → Found → Gpa → ℕ → Plan
+unblockAt t x gpa level =
+    onReach (entryFor t x gpa level NL-BLOCKED PENDING-BLOCKED) Say λ b i e.
+    need (isTracked t (e .frame) x) (refuse 8 0) (
+    need (ownFrame (t .frames) (t .stock) (x .tdr) e) (refuse 14 0) (
+    given (unblockedState (e .state)) λ state.
+    Do (edit frame.Keep page.Keep domains.Keep stock.Keep (entries.Set b i (entry state (e .frame))))))
+
+unfoldable pub unblockPlan : Hpa → Tables → Hpa → Gpa → ℕ → Plan
+unblockPlan base t d gpa level =
+    onSpot base t d gpa level 0 λ n.
+    onLookup (liveFor t n) Say λ x.
+    unblockAt t x gpa level
+
+-- ---- removals: tracked (8), the frame's 14, a table's 9, the count's 14; frame NDA, entry FREE
+unfoldable pub pageremoveAt : Tables → Found → Gpa → Plan
+pageremoveAt t x gpa =
+    onReach (entryFor t x gpa 0 BLOCKED PENDING-BLOCKED) Say λ b i e.
+    need (isTracked t (e .frame) x) (refuse 8 0) (
+    need (ownFrame (t .frames) (t .stock) (x .tdr) e) (refuse 14 0)
+    (lose x (e .frame) stock.Keep (entries.Set b i freeEntry)))
+
+-- pageremove: live; entry 5 or 6; tracked; frame NDA, entry FREE
+unfoldable pub pageremovePlan : Hpa → Tables → Hpa → Gpa → Plan
+pageremovePlan base t d gpa =
+    onSpot base t d gpa 0 0 λ n.
+    onLookup (liveFor t n) Say λ x.
+    pageremoveAt t x gpa
+
+-- septremove: 8, the frame's and table's 14, 9, the count's 14
+unfoldable pub septremoveAt : Tables → Found → Gpa → ℕ → Plan
+septremoveAt t x gpa level =
+    onReach (entryFor t x gpa level NL-BLOCKED NL-BLOCKED) Say λ b i e.
+    need (isTracked t (e .frame) x) (refuse 8 0) (
+    need (ownFrame (t .frames) (t .stock) (x .tdr) e) (refuse 14 0) (
+    given (frameAt (t .frames) (e .frame)) λ f.
+    need (tableEmpty t (f .number)) (refuse 9 0)
+    (lose x (e .frame) (stock.Give (f .number)) (entries.Set b i freeEntry))))
+
+-- septremove: live; entry 4; tracked; its 512 entries FREE; frame NDA, table given back, entry FREE
+unfoldable pub septremovePlan : Hpa → Tables → Hpa → Gpa → ℕ → Plan
+septremovePlan base t d gpa level =
+    onSpot base t d gpa level 1 λ n.
+    onLookup (liveFor t n) Say λ x.
+    septremoveAt t x gpa level
+
+-- ---- readentry: live; level, state, hpa (0 if FREE). The walk's 6 and 14, and no more
+unfoldable pub readentryAt : Hpa → Tables → Found → Gpa → ℕ → Plan
+readentryAt base t x gpa level =
+    onWalk (walkOf t x gpa level) (λ l s. Say (answer.Stop 6 l s)) (refuse 14 0) λ b i.
+    given (entryAt (t .entries) b i) λ e.
+    iff (eqb (e .state) FREE) (Say (answer.Entry level (e .state) (record { 0 = 0 }))) (
+    given (hpaOf base (e .frame)) λ hpa.
+    Say (answer.Entry level (e .state) hpa))
+
+unfoldable pub readentryPlan : Hpa → Tables → Hpa → Gpa → ℕ → Plan
+readentryPlan base t d gpa level =
+    onSpot base t d gpa level 0 λ n.
+    onLookup (liveFor t n) Say λ x.
+    readentryAt base t x gpa level

@@ -1,0 +1,602 @@
+// The calls on a domain's tree: septadd, pageadd, pageaug, block, unblock, pageremove, septremove, readentry.
+ghost use mathlib.Core.Path.{_≡_};
+ghost use Rattle.ledger.specs.Tables.{lent};
+ghost use Rattle.plan.specs.Edits.{withFrameEpoch};
+ghost use Rattle.plan.specs.Entries.{isTracked};
+ghost use Rattle.trees.specs.Trees.{septAt, pageAt, septaddPlan, pagePlan, blockAt, blockPlan, unblockAt, unblockPlan, pageremoveAt, pageremovePlan, septremoveAt, septremovePlan, readentryAt, readentryPlan};
+use calls::Answer;
+use ledger::codes::BLOCKED;
+use ledger::codes::EPT;
+use ledger::codes::FREE;
+use ledger::codes::INITIALIZED;
+use ledger::codes::NDA;
+use ledger::codes::NL_BLOCKED;
+use ledger::codes::NL_MAPPED;
+use ledger::codes::PENDING;
+use ledger::codes::PENDING_BLOCKED;
+use ledger::codes::REG;
+use ledger::codes::RUNNABLE;
+use ledger::sizes;
+use ledger::tables;
+use ledger::words::Entry;
+use ledger::words::Frame;
+use plan::domain;
+use plan::edit::DomainEdit;
+use plan::edit::Edit;
+use plan::edit::EntryEdit;
+use plan::edit::FrameEdit;
+use plan::edit::PageEdit;
+use plan::edit::Plan;
+use plan::edit::StockEdit;
+use plan::entry;
+use plan::entry::Reach;
+use plan::lookup;
+use plan::lookup::Found;
+use plan::lookup::Lookup;
+use plan::lookup::Operand;
+use stock::bits;
+use stock::bits::Lowest;
+use units::address;
+use units::address::Gpa;
+use units::address::Hpa;
+use units::address::Pfn;
+use walk::Walk;
+
+// Whether a frame is tracked for the domain x.
+fn is_tracked(
+    frames: &[u64],
+    domains: &[u64],
+    stock: &[u64],
+    entries: &[u32],
+    n: Pfn,
+    x: Found,
+) -> bool
+    ensures { λ r. ⌜ r ≡ isTracked (lent (now (frames .entry)) (now (domains .entry)) (now (stock .entry)) (now (entries .entry))) n x ⌝ }
+{
+    let f = tables::frame_at(frames, n);
+    let d = x.dom;
+    f.epoch < d.epoch
+}
+
+// F becomes an EPT with the lowest unused table.
+fn sept_at(
+    frames: &[u64],
+    domains: &[u64],
+    stock: &[u64],
+    entries: &[u32],
+    x: Found,
+    gpa: Gpa,
+    level: usize,
+    f: Pfn,
+) -> Plan
+    ensures { λ r. ⌜ r ≡ septAt (lent (now (frames .entry)) (now (domains .entry)) (now (stock .entry)) (now (entries .entry))) x gpa level f ⌝ }
+{
+    let fr = tables::frame_at(frames, f);
+    if fr.kind != NDA {
+        return Plan::Say(Answer::No(2, 3));
+    }
+    match entry::entry_for(frames, domains, stock, entries, x, gpa, level, FREE, FREE) {
+        Reach::Not(a) => Plan::Say(a),
+        Reach::At(b, i, _) => {
+            let tables = sizes::tables_of(domains.len(), entries.len());
+            let Lowest::At(table) = bits::lowest_unused(stock, 0, tables) else {
+                return Plan::Say(Answer::No(11, 0));
+            };
+            let tdr = x.tdr;
+            let d = x.dom;
+            let ept = Frame {
+                kind: EPT,
+                owner: tdr,
+                number: table as u64,
+                epoch: 0,
+            };
+            let mapped = EntryEdit::Set(
+                b,
+                i,
+                Entry {
+                    state: NL_MAPPED,
+                    frame: f,
+                },
+            );
+            domain::gains(
+                frames.len(),
+                x,
+                f,
+                ept,
+                PageEdit::Keep,
+                d.listed,
+                StockEdit::Table(table),
+                mapped,
+            )
+        }
+    }
+}
+
+// F becomes a REG, and its entry gets a state.
+fn page_at(
+    frames: &[u64],
+    domains: &[u64],
+    stock: &[u64],
+    entries: &[u32],
+    x: Found,
+    gpa: Gpa,
+    f: Pfn,
+    state: u64,
+) -> Plan
+    ensures { λ r. ⌜ r ≡ pageAt (lent (now (frames .entry)) (now (domains .entry)) (now (stock .entry)) (now (entries .entry))) x gpa f state ⌝ }
+{
+    let fr = tables::frame_at(frames, f);
+    if fr.kind != NDA {
+        return Plan::Say(Answer::No(2, 2));
+    }
+    match entry::entry_for(frames, domains, stock, entries, x, gpa, 0, FREE, FREE) {
+        Reach::Not(a) => Plan::Say(a),
+        Reach::At(b, i, _) => {
+            let tdr = x.tdr;
+            let d = x.dom;
+            let reg = Frame {
+                kind: REG,
+                owner: tdr,
+                number: 0,
+                epoch: 0,
+            };
+            let mapped = EntryEdit::Set(b, i, Entry { state, frame: f });
+            domain::gains(
+                frames.len(),
+                x,
+                f,
+                reg,
+                PageEdit::Keep,
+                d.listed,
+                StockEdit::Keep,
+                mapped,
+            )
+        }
+    }
+}
+
+pub fn plan_septadd(
+    base: Hpa,
+    frames: &[u64],
+    domains: &[u64],
+    stock: &[u64],
+    entries: &[u32],
+    tdr: Hpa,
+    gpa: Gpa,
+    level: usize,
+    hpa: Hpa,
+) -> Plan
+    ensures { λ r. ⌜ r ≡ septaddPlan base (lent (now (frames .entry)) (now (domains .entry)) (now (stock .entry)) (now (entries .entry))) tdr gpa level hpa ⌝ }
+{
+    match lookup::spot_operands(base, frames.len(), tdr, gpa, level, 1) {
+        Operand::Bad(k) => Plan::Say(Answer::No(1, k)),
+        Operand::Frame(n) => match lookup::frame_operand(base, frames.len(), hpa, 3) {
+            Operand::Bad(k) => Plan::Say(Answer::No(1, k)),
+            Operand::Frame(m) => match lookup::find_built(
+                frames,
+                domains,
+                stock,
+                entries,
+                n,
+                INITIALIZED,
+                RUNNABLE,
+            ) {
+                Lookup::Not(a) => Plan::Say(a),
+                Lookup::Is(x) => sept_at(frames, domains, stock, entries, x, gpa, level, m),
+            },
+        },
+    }
+}
+
+// pageadd and pageaug: the op state asked for, and the entry's state afterwards.
+pub fn plan_page(
+    base: Hpa,
+    frames: &[u64],
+    domains: &[u64],
+    stock: &[u64],
+    entries: &[u32],
+    tdr: Hpa,
+    gpa: Gpa,
+    hpa: Hpa,
+    op: u64,
+    state: u64,
+) -> Plan
+    ensures { λ r. ⌜ r ≡ pagePlan base (lent (now (frames .entry)) (now (domains .entry)) (now (stock .entry)) (now (entries .entry))) tdr gpa hpa op state ⌝ }
+{
+    match lookup::spot_operands(base, frames.len(), tdr, gpa, 0, 0) {
+        Operand::Bad(k) => Plan::Say(Answer::No(1, k)),
+        Operand::Frame(n) => match lookup::frame_operand(base, frames.len(), hpa, 2) {
+            Operand::Bad(k) => Plan::Say(Answer::No(1, k)),
+            Operand::Frame(m) => match lookup::find_built(
+                frames,
+                domains,
+                stock,
+                entries,
+                n,
+                op,
+                op,
+            ) {
+                Lookup::Not(a) => Plan::Say(a),
+                Lookup::Is(x) => page_at(frames, domains, stock, entries, x, gpa, m, state),
+            },
+        },
+    }
+}
+
+fn block_at(
+    frames: &[u64],
+    domains: &[u64],
+    stock: &[u64],
+    entries: &[u32],
+    x: Found,
+    gpa: Gpa,
+    level: usize,
+) -> Plan
+    ensures { λ r. ⌜ r ≡ blockAt (lent (now (frames .entry)) (now (domains .entry)) (now (stock .entry)) (now (entries .entry))) x gpa level ⌝ }
+{
+    match entry::entry_for(
+        frames,
+        domains,
+        stock,
+        entries,
+        x,
+        gpa,
+        level,
+        NL_MAPPED,
+        PENDING,
+    ) {
+        Reach::Not(a) => Plan::Say(a),
+        Reach::At(b, i, e) => {
+            let frame = e.frame;
+            if !walk::own_frame(frames, stock, x.tdr, e) {
+                return Plan::Say(Answer::No(14, 0));
+            }
+            let f = tables::frame_at(frames, frame);
+            let d = x.dom;
+            Plan::Do(Edit {
+                frame: FrameEdit::Set(frame, with_epoch(f, d.epoch)),
+                page: PageEdit::Keep,
+                domain: DomainEdit::Keep,
+                stock: StockEdit::Keep,
+                entry: EntryEdit::Set(
+                    b,
+                    i,
+                    Entry {
+                        state: entry::blocked_state(e.state),
+                        frame,
+                    },
+                ),
+            })
+        }
+    }
+}
+
+fn with_epoch(f: Frame, epoch: u64) -> Frame
+    ensures { λ r. ⌜ r ≡ withFrameEpoch f epoch ⌝ }
+{
+    let owner = f.owner;
+    Frame {
+        kind: f.kind,
+        owner,
+        number: f.number,
+        epoch,
+    }
+}
+
+fn unblock_at(
+    frames: &[u64],
+    domains: &[u64],
+    stock: &[u64],
+    entries: &[u32],
+    x: Found,
+    gpa: Gpa,
+    level: usize,
+) -> Plan
+    ensures { λ r. ⌜ r ≡ unblockAt (lent (now (frames .entry)) (now (domains .entry)) (now (stock .entry)) (now (entries .entry))) x gpa level ⌝ }
+{
+    match entry::entry_for(
+        frames,
+        domains,
+        stock,
+        entries,
+        x,
+        gpa,
+        level,
+        NL_BLOCKED,
+        PENDING_BLOCKED,
+    ) {
+        Reach::Not(a) => Plan::Say(a),
+        Reach::At(b, i, e) => {
+            let frame = e.frame;
+            if !is_tracked(frames, domains, stock, entries, frame, x) {
+                return Plan::Say(Answer::No(8, 0));
+            }
+            if !walk::own_frame(frames, stock, x.tdr, e) {
+                return Plan::Say(Answer::No(14, 0));
+            }
+            Plan::Do(Edit {
+                frame: FrameEdit::Keep,
+                page: PageEdit::Keep,
+                domain: DomainEdit::Keep,
+                stock: StockEdit::Keep,
+                entry: EntryEdit::Set(
+                    b,
+                    i,
+                    Entry {
+                        state: entry::unblocked_state(e.state),
+                        frame,
+                    },
+                ),
+            })
+        }
+    }
+}
+
+fn pageremove_at(
+    frames: &[u64],
+    domains: &[u64],
+    stock: &[u64],
+    entries: &[u32],
+    x: Found,
+    gpa: Gpa,
+) -> Plan
+    ensures { λ r. ⌜ r ≡ pageremoveAt (lent (now (frames .entry)) (now (domains .entry)) (now (stock .entry)) (now (entries .entry))) x gpa ⌝ }
+{
+    match entry::entry_for(
+        frames,
+        domains,
+        stock,
+        entries,
+        x,
+        gpa,
+        0,
+        BLOCKED,
+        PENDING_BLOCKED,
+    ) {
+        Reach::Not(a) => Plan::Say(a),
+        Reach::At(b, i, e) => {
+            let frame = e.frame;
+            if !is_tracked(frames, domains, stock, entries, frame, x) {
+                return Plan::Say(Answer::No(8, 0));
+            }
+            if !walk::own_frame(frames, stock, x.tdr, e) {
+                return Plan::Say(Answer::No(14, 0));
+            }
+            domain::loses(
+                x,
+                frame,
+                StockEdit::Keep,
+                EntryEdit::Set(
+                    b,
+                    i,
+                    Entry {
+                        state: FREE,
+                        frame: Pfn(0),
+                    },
+                ),
+            )
+        }
+    }
+}
+
+fn septremove_at(
+    frames: &[u64],
+    domains: &[u64],
+    stock: &[u64],
+    entries: &[u32],
+    x: Found,
+    gpa: Gpa,
+    level: usize,
+) -> Plan
+    ensures { λ r. ⌜ r ≡ septremoveAt (lent (now (frames .entry)) (now (domains .entry)) (now (stock .entry)) (now (entries .entry))) x gpa level ⌝ }
+{
+    match entry::entry_for(
+        frames,
+        domains,
+        stock,
+        entries,
+        x,
+        gpa,
+        level,
+        NL_BLOCKED,
+        NL_BLOCKED,
+    ) {
+        Reach::Not(a) => Plan::Say(a),
+        Reach::At(b, i, e) => {
+            let frame = e.frame;
+            if !is_tracked(frames, domains, stock, entries, frame, x) {
+                return Plan::Say(Answer::No(8, 0));
+            }
+            if !walk::own_frame(frames, stock, x.tdr, e) {
+                return Plan::Say(Answer::No(14, 0));
+            }
+            let f = tables::frame_at(frames, frame);
+            let table = f.number as usize;
+            if !entry::table_empty(frames, domains, stock, entries, table) {
+                return Plan::Say(Answer::No(9, 0));
+            }
+            domain::loses(
+                x,
+                frame,
+                StockEdit::Give(table),
+                EntryEdit::Set(
+                    b,
+                    i,
+                    Entry {
+                        state: FREE,
+                        frame: Pfn(0),
+                    },
+                ),
+            )
+        }
+    }
+}
+
+fn readentry_at(
+    base: Hpa,
+    frames: &[u64],
+    domains: &[u64],
+    stock: &[u64],
+    entries: &[u32],
+    x: Found,
+    gpa: Gpa,
+    level: usize,
+) -> Plan
+    ensures { λ r. ⌜ r ≡ readentryAt base (lent (now (frames .entry)) (now (domains .entry)) (now (stock .entry)) (now (entries .entry))) x gpa level ⌝ }
+{
+    match entry::walk_of(frames, domains, stock, entries, x, gpa, level) {
+        Walk::Stopped(l, s) => Plan::Say(Answer::Stop(6, l, s)),
+        Walk::Foreign => Plan::Say(Answer::No(14, 0)),
+        Walk::At(b, i) => {
+            let e = tables::entry_at(entries, b, i);
+            if e.state == FREE {
+                return Plan::Say(Answer::Entry(level, e.state, Hpa(0)));
+            }
+            Plan::Say(Answer::Entry(level, e.state, address::hpa_of(base, e.frame)))
+        }
+    }
+}
+
+pub fn plan_block(
+    base: Hpa,
+    frames: &[u64],
+    domains: &[u64],
+    stock: &[u64],
+    entries: &[u32],
+    tdr: Hpa,
+    gpa: Gpa,
+    level: usize,
+) -> Plan
+    ensures { λ r. ⌜ r ≡ blockPlan base (lent (now (frames .entry)) (now (domains .entry)) (now (stock .entry)) (now (entries .entry))) tdr gpa level ⌝ }
+{
+    match lookup::spot_operands(base, frames.len(), tdr, gpa, level, 0) {
+        Operand::Bad(k) => Plan::Say(Answer::No(1, k)),
+        Operand::Frame(n) => match lookup::find_built(
+            frames,
+            domains,
+            stock,
+            entries,
+            n,
+            INITIALIZED,
+            RUNNABLE,
+        ) {
+            Lookup::Not(a) => Plan::Say(a),
+            Lookup::Is(x) => block_at(frames, domains, stock, entries, x, gpa, level),
+        },
+    }
+}
+
+pub fn plan_unblock(
+    base: Hpa,
+    frames: &[u64],
+    domains: &[u64],
+    stock: &[u64],
+    entries: &[u32],
+    tdr: Hpa,
+    gpa: Gpa,
+    level: usize,
+) -> Plan
+    ensures { λ r. ⌜ r ≡ unblockPlan base (lent (now (frames .entry)) (now (domains .entry)) (now (stock .entry)) (now (entries .entry))) tdr gpa level ⌝ }
+{
+    match lookup::spot_operands(base, frames.len(), tdr, gpa, level, 0) {
+        Operand::Bad(k) => Plan::Say(Answer::No(1, k)),
+        Operand::Frame(n) => match lookup::find_built(
+            frames,
+            domains,
+            stock,
+            entries,
+            n,
+            INITIALIZED,
+            RUNNABLE,
+        ) {
+            Lookup::Not(a) => Plan::Say(a),
+            Lookup::Is(x) => unblock_at(frames, domains, stock, entries, x, gpa, level),
+        },
+    }
+}
+
+pub fn plan_pageremove(
+    base: Hpa,
+    frames: &[u64],
+    domains: &[u64],
+    stock: &[u64],
+    entries: &[u32],
+    tdr: Hpa,
+    gpa: Gpa,
+) -> Plan
+    ensures { λ r. ⌜ r ≡ pageremovePlan base (lent (now (frames .entry)) (now (domains .entry)) (now (stock .entry)) (now (entries .entry))) tdr gpa ⌝ }
+{
+    match lookup::spot_operands(base, frames.len(), tdr, gpa, 0, 0) {
+        Operand::Bad(k) => Plan::Say(Answer::No(1, k)),
+        Operand::Frame(n) => match lookup::find_built(
+            frames,
+            domains,
+            stock,
+            entries,
+            n,
+            INITIALIZED,
+            RUNNABLE,
+        ) {
+            Lookup::Not(a) => Plan::Say(a),
+            Lookup::Is(x) => pageremove_at(frames, domains, stock, entries, x, gpa),
+        },
+    }
+}
+
+pub fn plan_septremove(
+    base: Hpa,
+    frames: &[u64],
+    domains: &[u64],
+    stock: &[u64],
+    entries: &[u32],
+    tdr: Hpa,
+    gpa: Gpa,
+    level: usize,
+) -> Plan
+    ensures { λ r. ⌜ r ≡ septremovePlan base (lent (now (frames .entry)) (now (domains .entry)) (now (stock .entry)) (now (entries .entry))) tdr gpa level ⌝ }
+{
+    match lookup::spot_operands(base, frames.len(), tdr, gpa, level, 1) {
+        Operand::Bad(k) => Plan::Say(Answer::No(1, k)),
+        Operand::Frame(n) => match lookup::find_built(
+            frames,
+            domains,
+            stock,
+            entries,
+            n,
+            INITIALIZED,
+            RUNNABLE,
+        ) {
+            Lookup::Not(a) => Plan::Say(a),
+            Lookup::Is(x) => septremove_at(frames, domains, stock, entries, x, gpa, level),
+        },
+    }
+}
+
+pub fn plan_readentry(
+    base: Hpa,
+    frames: &[u64],
+    domains: &[u64],
+    stock: &[u64],
+    entries: &[u32],
+    tdr: Hpa,
+    gpa: Gpa,
+    level: usize,
+) -> Plan
+    ensures { λ r. ⌜ r ≡ readentryPlan base (lent (now (frames .entry)) (now (domains .entry)) (now (stock .entry)) (now (entries .entry))) tdr gpa level ⌝ }
+{
+    match lookup::spot_operands(base, frames.len(), tdr, gpa, level, 0) {
+        Operand::Bad(k) => Plan::Say(Answer::No(1, k)),
+        Operand::Frame(n) => match lookup::find_built(
+            frames,
+            domains,
+            stock,
+            entries,
+            n,
+            INITIALIZED,
+            RUNNABLE,
+        ) {
+            Lookup::Not(a) => Plan::Say(a),
+            Lookup::Is(x) => readentry_at(base, frames, domains, stock, entries, x, gpa, level),
+        },
+    }
+}
