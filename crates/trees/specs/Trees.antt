@@ -19,6 +19,8 @@ use Rattle.plan.specs.Lookup.{onOperand, onLookup, spotOperands, builtFor, live
 use Rattle.plan.specs.Entries.{walkOf, entryFor, onReach, blockedState, unblockedState, isTracked, tableEmpty}
 use Rattle.plan.specs.Domains.{refuse, onFrame, gain, lose}
 use Rattle.plan.specs.declared.lookup.Found.{Found}
+use Rattle.plan.specs.declared.lookup.Lookup.{Lookup}
+use Rattle.plan.specs.declared.lookup.Lookup.the-variants.{Not}
 use Rattle.plan.specs.declared.edit.FrameEdit.the-variants as frame
 use Rattle.plan.specs.declared.edit.PageEdit.the-variants as page
 use Rattle.plan.specs.declared.edit.DomainEdit.the-variants as domains
@@ -30,6 +32,10 @@ use Rattle.plan.specs.declared.edit.Plan.the-variants.{Say, Do}
 -- D, a gpa and a level from `least` on
 abbrev pub onSpot : Hpa → Tables → Hpa → Gpa → ℕ → ℕ → (Pfn → Plan) → Plan
 onSpot base t d gpa level least next = onOperand (spotOperands base (length (t .frames)) d gpa level least) (refuse 1) next
+
+-- the same with D live
+unfoldable pub liveAt : Hpa → Tables → Hpa → Gpa → ℕ → ℕ → Lookup
+liveAt base t d gpa level least = onOperand (spotOperands base (length (t .frames)) d gpa level least) (λ k. Not (answer.No 1 k)) (λ n. liveFor t n)
 
 -- ---- gains: F NDA (F's 2, F being operand k), entry FREE (6, 14, 7), a table's 11, the count's 14
 unfoldable pub septAt : Tables → Found → Gpa → ℕ → Pfn → Plan

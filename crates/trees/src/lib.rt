@@ -3,7 +3,7 @@ ghost use mathlib.Core.Path.{_≡_};
 ghost use Rattle.ledger.specs.Tables.{lent};
 ghost use Rattle.plan.specs.Edits.{withFrameEpoch};
 ghost use Rattle.plan.specs.Entries.{isTracked};
-ghost use Rattle.trees.specs.Trees.{septAt, pageAt, septaddPlan, pagePlan, blockAt, blockPlan, unblockAt, unblockPlan, pageremoveAt, pageremovePlan, septremoveAt, septremovePlan, readentryAt, readentryPlan};
+ghost use Rattle.trees.specs.Trees.{liveAt, septAt, pageAt, septaddPlan, pagePlan, blockAt, blockPlan, unblockAt, unblockPlan, pageremoveAt, pageremovePlan, septremoveAt, septremovePlan, readentryAt, readentryPlan};
 use calls::Answer;
 use ledger::codes::BLOCKED;
 use ledger::codes::EPT;
@@ -457,6 +457,34 @@ fn readentry_at(
     }
 }
 
+// D live, with a gpa and a level from `least` on.
+fn find_live(
+    base: Hpa,
+    frames: &[u64],
+    domains: &[u64],
+    stock: &[u64],
+    entries: &[u32],
+    tdr: Hpa,
+    gpa: Gpa,
+    level: usize,
+    least: usize,
+) -> Lookup
+    ensures { λ r. ⌜ r ≡ liveAt base (lent (now (frames .entry)) (now (domains .entry)) (now (stock .entry)) (now (entries .entry))) tdr gpa level least ⌝ }
+{
+    match lookup::spot_operands(base, frames.len(), tdr, gpa, level, least) {
+        Operand::Bad(k) => Lookup::Not(Answer::No(1, k)),
+        Operand::Frame(n) => lookup::find_built(
+            frames,
+            domains,
+            stock,
+            entries,
+            n,
+            INITIALIZED,
+            RUNNABLE,
+        ),
+    }
+}
+
 pub fn plan_block(
     base: Hpa,
     frames: &[u64],
@@ -469,20 +497,9 @@ pub fn plan_block(
 ) -> Plan
     ensures { λ r. ⌜ r ≡ blockPlan base (lent (now (frames .entry)) (now (domains .entry)) (now (stock .entry)) (now (entries .entry))) tdr gpa level ⌝ }
 {
-    match lookup::spot_operands(base, frames.len(), tdr, gpa, level, 0) {
-        Operand::Bad(k) => Plan::Say(Answer::No(1, k)),
-        Operand::Frame(n) => match lookup::find_built(
-            frames,
-            domains,
-            stock,
-            entries,
-            n,
-            INITIALIZED,
-            RUNNABLE,
-        ) {
-            Lookup::Not(a) => Plan::Say(a),
-            Lookup::Is(x) => block_at(frames, domains, stock, entries, x, gpa, level),
-        },
+    match find_live(base, frames, domains, stock, entries, tdr, gpa, level, 0) {
+        Lookup::Not(a) => Plan::Say(a),
+        Lookup::Is(x) => block_at(frames, domains, stock, entries, x, gpa, level),
     }
 }
 
@@ -498,20 +515,9 @@ pub fn plan_unblock(
 ) -> Plan
     ensures { λ r. ⌜ r ≡ unblockPlan base (lent (now (frames .entry)) (now (domains .entry)) (now (stock .entry)) (now (entries .entry))) tdr gpa level ⌝ }
 {
-    match lookup::spot_operands(base, frames.len(), tdr, gpa, level, 0) {
-        Operand::Bad(k) => Plan::Say(Answer::No(1, k)),
-        Operand::Frame(n) => match lookup::find_built(
-            frames,
-            domains,
-            stock,
-            entries,
-            n,
-            INITIALIZED,
-            RUNNABLE,
-        ) {
-            Lookup::Not(a) => Plan::Say(a),
-            Lookup::Is(x) => unblock_at(frames, domains, stock, entries, x, gpa, level),
-        },
+    match find_live(base, frames, domains, stock, entries, tdr, gpa, level, 0) {
+        Lookup::Not(a) => Plan::Say(a),
+        Lookup::Is(x) => unblock_at(frames, domains, stock, entries, x, gpa, level),
     }
 }
 
@@ -526,20 +532,9 @@ pub fn plan_pageremove(
 ) -> Plan
     ensures { λ r. ⌜ r ≡ pageremovePlan base (lent (now (frames .entry)) (now (domains .entry)) (now (stock .entry)) (now (entries .entry))) tdr gpa ⌝ }
 {
-    match lookup::spot_operands(base, frames.len(), tdr, gpa, 0, 0) {
-        Operand::Bad(k) => Plan::Say(Answer::No(1, k)),
-        Operand::Frame(n) => match lookup::find_built(
-            frames,
-            domains,
-            stock,
-            entries,
-            n,
-            INITIALIZED,
-            RUNNABLE,
-        ) {
-            Lookup::Not(a) => Plan::Say(a),
-            Lookup::Is(x) => pageremove_at(frames, domains, stock, entries, x, gpa),
-        },
+    match find_live(base, frames, domains, stock, entries, tdr, gpa, 0, 0) {
+        Lookup::Not(a) => Plan::Say(a),
+        Lookup::Is(x) => pageremove_at(frames, domains, stock, entries, x, gpa),
     }
 }
 
@@ -555,20 +550,9 @@ pub fn plan_septremove(
 ) -> Plan
     ensures { λ r. ⌜ r ≡ septremovePlan base (lent (now (frames .entry)) (now (domains .entry)) (now (stock .entry)) (now (entries .entry))) tdr gpa level ⌝ }
 {
-    match lookup::spot_operands(base, frames.len(), tdr, gpa, level, 1) {
-        Operand::Bad(k) => Plan::Say(Answer::No(1, k)),
-        Operand::Frame(n) => match lookup::find_built(
-            frames,
-            domains,
-            stock,
-            entries,
-            n,
-            INITIALIZED,
-            RUNNABLE,
-        ) {
-            Lookup::Not(a) => Plan::Say(a),
-            Lookup::Is(x) => septremove_at(frames, domains, stock, entries, x, gpa, level),
-        },
+    match find_live(base, frames, domains, stock, entries, tdr, gpa, level, 1) {
+        Lookup::Not(a) => Plan::Say(a),
+        Lookup::Is(x) => septremove_at(frames, domains, stock, entries, x, gpa, level),
     }
 }
 
@@ -584,19 +568,8 @@ pub fn plan_readentry(
 ) -> Plan
     ensures { λ r. ⌜ r ≡ readentryPlan base (lent (now (frames .entry)) (now (domains .entry)) (now (stock .entry)) (now (entries .entry))) tdr gpa level ⌝ }
 {
-    match lookup::spot_operands(base, frames.len(), tdr, gpa, level, 0) {
-        Operand::Bad(k) => Plan::Say(Answer::No(1, k)),
-        Operand::Frame(n) => match lookup::find_built(
-            frames,
-            domains,
-            stock,
-            entries,
-            n,
-            INITIALIZED,
-            RUNNABLE,
-        ) {
-            Lookup::Not(a) => Plan::Say(a),
-            Lookup::Is(x) => readentry_at(base, frames, domains, stock, entries, x, gpa, level),
-        },
+    match find_live(base, frames, domains, stock, entries, tdr, gpa, level, 0) {
+        Lookup::Not(a) => Plan::Say(a),
+        Lookup::Is(x) => readentry_at(base, frames, domains, stock, entries, x, gpa, level),
     }
 }
