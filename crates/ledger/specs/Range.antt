@@ -20,7 +20,7 @@ use Rattle.ledger.specs.declared.range.FrameLimits.{FrameLimits}
 
 -- owner, number and epoch each stay below this: "owner (the TDR's frame, for types 2 to 4) [..] for EPT its table number; for TDR its
 -- domain record number", "only EPT and REG have epochs"; 1 where the type lacks the number, and no number is right for another type
-abbrev below : ℕ → ℕ → ℕ → FrameLimits
+abbrev pub below : ℕ → ℕ → ℕ → FrameLimits
 below o n e = record { owner = o; number = n; epoch = e }
 
 unfoldable pub frameLimits : Sizes → ℕ → FrameLimits

@@ -1,7 +1,7 @@
 // Answer 13: whether every stored number and code is in its range, in one pass over the frames and one over the blocks in use.
 ghost use mathlib.Core.Path.{_≡_};
 ghost use Rattle.ledger.specs.Tables.{lent};
-ghost use Rattle.ledger.specs.Range.{frameLimits, frameOk, framesOk, entryOk, entriesOk, pageOk, pagesOk, domainOk, recordOk, blockOk, blocksOk, lentOk};
+ghost use Rattle.ledger.specs.Range.{below, frameLimits, frameOk, framesOk, entryOk, entriesOk, pageOk, pagesOk, domainOk, recordOk, blockOk, blocksOk, lentOk};
 use crate::codes::EPT;
 use crate::codes::FREE;
 use crate::codes::NDA;
@@ -30,49 +30,35 @@ pub struct FrameLimits {
     pub epoch: u64,
 }
 
+fn below(owner: u64, number: u64, epoch: u64) -> FrameLimits
+    ensures { λ r. ⌜ r ≡ below owner number epoch ⌝ }
+{
+    FrameLimits {
+        owner,
+        number,
+        epoch,
+    }
+}
+
 fn frame_limits(s: Sizes, kind: u64) -> FrameLimits
     ensures { λ r. ⌜ r ≡ frameLimits s kind ⌝ }
 {
     if kind == NDA {
-        return FrameLimits {
-            owner: 1,
-            number: 1,
-            epoch: 1,
-        };
+        return below(1, 1, 1);
     }
     if kind == TDR {
-        return FrameLimits {
-            owner: 1,
-            number: s.records as u64,
-            epoch: 1,
-        };
+        return below(1, s.records as u64, 1);
     }
     if kind == TDCX {
-        return FrameLimits {
-            owner: s.frames as u64,
-            number: 1,
-            epoch: 1,
-        };
+        return below(s.frames as u64, 1, 1);
     }
     if kind == EPT {
-        return FrameLimits {
-            owner: s.frames as u64,
-            number: s.tables as u64,
-            epoch: EPOCH_MOST + 1,
-        };
+        return below(s.frames as u64, s.tables as u64, EPOCH_MOST + 1);
     }
     if kind == REG {
-        return FrameLimits {
-            owner: s.frames as u64,
-            number: 1,
-            epoch: EPOCH_MOST + 1,
-        };
+        return below(s.frames as u64, 1, EPOCH_MOST + 1);
     }
-    FrameLimits {
-        owner: 0,
-        number: 0,
-        epoch: 0,
-    }
+    below(0, 0, 0)
 }
 
 fn frame_ok(s: Sizes, frames: &[u64], frame: Pfn) -> bool

@@ -1,7 +1,8 @@
 // The calls on a domain's tree: septadd, pageadd, pageaug, block, unblock, pageremove, septremove, readentry.
 ghost use mathlib.Core.Path.{_≡_};
 ghost use Rattle.ledger.specs.Tables.{lent};
-ghost use Rattle.plan.specs.Edits.{withFrameEpoch};
+ghost use Rattle.plan.specs.Domains.{lose};
+ghost use Rattle.plan.specs.Edits.{withFrameEpoch, freeEntry};
 ghost use Rattle.plan.specs.Entries.{isTracked};
 ghost use Rattle.trees.specs.Trees.{liveAt, septAt, pageAt, septaddPlan, pagePlan, blockAt, blockPlan, unblockAt, unblockPlan, pageremoveAt, pageremovePlan, septremoveAt, septremovePlan, readentryAt, readentryPlan};
 use calls::Answer;
@@ -332,6 +333,17 @@ fn unblock_at(
     }
 }
 
+// The frame leaves the domain, and its entry becomes FREE.
+fn frees(x: Found, frame: Pfn, stock: StockEdit, block: usize, index: usize) -> Plan
+    ensures { λ r. ⌜ r ≡ lose x frame stock (EntryEdit.Set block index freeEntry) ⌝ }
+{
+    let free = Entry {
+        state: FREE,
+        frame: Pfn(0),
+    };
+    domain::loses(x, frame, stock, EntryEdit::Set(block, index, free))
+}
+
 fn pageremove_at(
     frames: &[u64],
     domains: &[u64],
@@ -362,19 +374,7 @@ fn pageremove_at(
             if !walk::own_frame(frames, stock, x.tdr, e) {
                 return Plan::Say(Answer::No(14, 0));
             }
-            domain::loses(
-                x,
-                frame,
-                StockEdit::Keep,
-                EntryEdit::Set(
-                    b,
-                    i,
-                    Entry {
-                        state: FREE,
-                        frame: Pfn(0),
-                    },
-                ),
-            )
+            frees(x, frame, StockEdit::Keep, b, i)
         }
     }
 }
@@ -415,19 +415,7 @@ fn septremove_at(
             if !entry::table_empty(frames, domains, stock, entries, table) {
                 return Plan::Say(Answer::No(9, 0));
             }
-            domain::loses(
-                x,
-                frame,
-                StockEdit::Give(table),
-                EntryEdit::Set(
-                    b,
-                    i,
-                    Entry {
-                        state: FREE,
-                        frame: Pfn(0),
-                    },
-                ),
-            )
+            frees(x, frame, StockEdit::Give(table), b, i)
         }
     }
 }

@@ -9,11 +9,17 @@ unfolding frameLimits
 frame-limits-spec =
     tie.close
     (tie.spec
+    (λ c κs. search needs)
     (λ c. search steps depth 12)
+    (λ c κs. search needs)
     (λ c. search steps depth 12)
+    (λ c κs. search needs)
     (λ c. search steps depth 12)
     (λ c. search needs)
+    (λ c κs. search needs)
     (λ c. search steps depth 12)
     (λ c. search needs)
+    (λ c κs. search needs)
     (λ c. search steps depth 12)
+    (λ c κs. search needs)
     (λ c. search steps depth 12))
