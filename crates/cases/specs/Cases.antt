@@ -2,7 +2,7 @@
 -- more, and what the paper says that it answers, whatever the fill and the lamp.
 use Prim.Native.Nat.{ℕ}
 use mathlib.Core.Path.{_≡_}
-use mathlib.Core.List.{List, [], _∷_}
+use mathlib.Core.List.{List, [], _∷_, _++_}
 use lib.ListN.{replicate}
 use Rattle.units.specs.declared.address.Hpa.{Hpa}
 use Rattle.units.specs.declared.address.Gpa.{Gpa}
@@ -88,21 +88,7 @@ blocked =
     ∷ []
 
 abbrev pub tracked : List Call
-tracked =
-    line-1
-    ∷ line-6
-    ∷ line-7
-    ∷ call.AddCx D (hpa 1073750016)
-    ∷ call.AddCx D (hpa 1073754112)
-    ∷ call.AddCx D (hpa 1073758208)
-    ∷ call.Init D
-    ∷ call.SeptAdd D (gpa 0) 3 (hpa 1073762304)
-    ∷ call.SeptAdd D (gpa 0) 2 (hpa 1073766400)
-    ∷ call.SeptAdd D (gpa 0) 1 (hpa 1073770496)
-    ∷ call.PageAdd D (gpa 0) (hpa 1073774592)
-    ∷ call.Block D (gpa 0) 0
-    ∷ call.Track D
-    ∷ []
+tracked = blocked ++ (call.Track D ∷ [])
 
 -- ---- "Lines 1, 2, 3, 4, 6, 7, 8 and 9 above."
 abbrev pub line1 : Case

@@ -2,8 +2,7 @@
 use mathlib.Core.Path.{_≡_, refl}
 use mathlib.Core.Bool.{Bool, true, false, false≢true}
 use mathlib.Core.List.{List}
-use Prim.Native.Nat.{ℕ, zero, suc, _+_, _-_, _/_, _%_, _^_, _<_}
-use native.Mathlib.Nat.{pow-suc, pow-succ', div-one, div-div-eq-div-mul}
+use Prim.Native.Nat.{ℕ, _+_, _-_, _/_, _%_, _^_, _<_}
 use native.Mathlib.Omega.{arith}
 use native.Mathlib.Decide.{ℕ-discrete}
 use lib.Dec.{eqb}
@@ -15,6 +14,7 @@ use Rattle.rules.proofs.Steps.{iff-both}
 use Rattle.units.specs.Limits.{tableEntries}
 use Rattle.units.specs.declared.address.Hpa.{Hpa}
 use Rattle.units.specs.declared.address.Pfn.{Pfn}
+use Rattle.stock.proofs.Bit.{room}
 use Rattle.stock.specs.Bits.{wordOf, bitSet, withBit, setUse, spareClear}
 use Rattle.ledger.specs.Tables.{Tables}
 use Rattle.ledger.specs.Words.{entryOf}
@@ -35,17 +35,6 @@ use Rattle.ownership.proofs.Stores.{stored, newFrame, newEntry, newUse,
 use Rattle.ownership.proofs.Ranged.{frameGood, entryGood, RecordGood, Ranged, sizesIn, Sized, sized, Lent}
 
 -- ---- the spare bits
-
-bit-suc : (w k : ℕ) → w / 2 ^ suc k % 2 ≡ w / 2 / 2 ^ k % 2
-bit-suc w k = rw (pow-succ', ← div-div-eq-div-mul)
-
--- a clear bit below n, set, keeps the number below 2 ^ n
-room : (n k w : ℕ) → k < n → w < 2 ^ n → w / 2 ^ k % 2 ≡ 0 → w + 2 ^ k < 2 ^ n
-room zero k w h l e = omega arith
-room (suc n) zero w h l e = rw pow-suc (omega (arith, rw pow-suc at l, rw div-one at e))
-room (suc n) (suc k) w h l e =
-    rw (pow-suc 2 n, pow-suc 2 k)
-    (omega (arith, room n k (w / 2) (omega arith) (omega (arith, rw pow-suc at l)) (rw bit-suc at e)))
 
 with-below : (w k m : ℕ) (on : Bool) → k < m → w < 2 ^ m → withBit w k on < 2 ^ m
 unfolding withBit bitSet

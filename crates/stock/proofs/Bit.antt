@@ -27,7 +27,7 @@ odd-more : (w k : ℕ) → (w + 2 ^ suc k) % 2 ≡ w % 2
 odd-more w k = rw pow-suc (omega arith)
 
 -- a clear bit below n, set, keeps the number below 2 ^ n
-room : (n k w : ℕ) → k < n → w < 2 ^ n → bit w k ≡ 0 → w + 2 ^ k < 2 ^ n
+pub room : (n k w : ℕ) → k < n → w < 2 ^ n → bit w k ≡ 0 → w + 2 ^ k < 2 ^ n
 room zero k w h l e = omega arith
 room (suc n) zero w h l e = rw pow-suc (omega (arith, rw pow-suc at l, rw bit-zero at e))
 room (suc n) (suc k) w h l e =
