@@ -1,3 +1,4 @@
 pub mod Firsts
 pub mod Answers
 pub mod Outcomes
+pub mod Doors
