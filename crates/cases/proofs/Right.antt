@@ -17,17 +17,18 @@ use Rattle.stock.specs.Bits.{wordOf, bitSet, inUse, withBit, setUse, lowestFrom
 use Rattle.stock.specs.Wipe.{wipedAt}
 use Rattle.ledger.specs.Tables.{Tables, frameAt, setFrame, recordWord, setRecordWord, domainAt, setDomain, pageAt, setPage, entryAt, setEntry}
 use Rattle.ledger.specs.Sizes.{tablesOf, rootOf, sizesOf, lengthsOk, sizesOk}
-use Rattle.ledger.specs.Range.{lentOk}
+use Rattle.range.specs.Range.{lentOk}
 use Rattle.walk.specs.Walk.{entryType, ownFrame, walkFrom, onWalk}
 use Rattle.calls.specs.Answers.{valuesOf}
 use Rattle.calls.specs.declared.Call.{Call}
 use Rattle.plan.specs.Lookup.{onPlace, onOperand, onLookup, frameOperand, spotOperands, domainFor, builtFor}
-use Rattle.plan.specs.Domains.{gain, lose, keyconfigPlan, initPlan, trackPlan, enlistAt, addcxPlan, otherKey, keyUnused, newRecord, createAt, createPlan}
+use Rattle.plan.specs.Changes.{gain, lose}
+use Rattle.domains.specs.Domains.{keyconfigPlan, initPlan, trackPlan, enlistAt, addcxPlan, otherKey, keyUnused, newRecord, createAt, createPlan}
 use Rattle.plan.specs.Entries.{entryFor, onReach, blockedState, isTracked}
 use Rattle.trees.specs.Trees as trees
 use Rattle.trees.specs.Trees.{septAt, septaddPlan, pagePlan, blockAt, blockPlan, pageremoveAt, pageremovePlan}
-use Rattle.plan.specs.Pages.{readpagePlan}
-use Rattle.host.specs.Carry.{afterFrame, afterPage, afterDomain, afterEntry, afterUse, afterRecord, afterBlock, applied, carried}
+use Rattle.pages.specs.Pages.{readpagePlan}
+use Rattle.carry.specs.Carry.{afterFrame, afterPage, afterDomain, afterEntry, afterUse, afterRecord, afterBlock, applied, carried}
 use Rattle.host.specs.Calls.{Outcome, planOf, settled, ruleOf, callOf, resetOf}
 use Rattle.ownership.specs.Reached as reached
 use Rattle.ownership.specs.Reached.{Lists, leftBy}

@@ -13,7 +13,7 @@ use Rattle.calls.specs.Answers.{valuesOf}
 use Rattle.calls.specs.declared.Call.{Call}
 use Rattle.calls.specs.declared.Call.the-variants as call
 use Rattle.calls.specs.declared.Values.{Values}
-use Rattle.host.specs.Carry.{carried}
+use Rattle.carry.specs.Carry.{carried}
 use Rattle.host.specs.Calls.{planOf, callOf}
 
 abbrev hpa : ℕ → Hpa

@@ -10,7 +10,6 @@ use ledger::codes::TDCX;
 use ledger::codes::TDR;
 use ledger::codes::TEARDOWN;
 use ledger::count;
-use ledger::range;
 use ledger::tables;
 use ledger::words::Domain;
 use ledger::words::Frame;

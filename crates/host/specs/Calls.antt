@@ -10,7 +10,7 @@ use Rattle.gauge.specs.Marks.{marksOk}
 use Rattle.gauge.specs.Update.{after, marked, fresh}
 use Rattle.gauge.specs.declared.Gauge.{Gauge}
 use Rattle.ledger.specs.Count.{usedFrames}
-use Rattle.ledger.specs.Range.{lentOk}
+use Rattle.range.specs.Range.{lentOk}
 use Rattle.ledger.specs.Sizes.{sizesOk}
 use Rattle.ledger.specs.Tables.{Tables, lent}
 use Rattle.calls.specs.Answers.{valuesOf}
@@ -18,11 +18,11 @@ use Rattle.calls.specs.declared.Answer.{Answer}
 use Rattle.calls.specs.declared.Answer.the-variants.{Done, No}
 use Rattle.calls.specs.declared.Call.{Call}
 use Rattle.calls.specs.declared.Call.the-variants as call
-use Rattle.plan.specs.Domains as domains
+use Rattle.domains.specs.Domains as domains
 use Rattle.trees.specs.Trees as trees
-use Rattle.plan.specs.Pages as pages
+use Rattle.pages.specs.Pages as pages
 use Rattle.plan.specs.declared.edit.Plan.{Plan}
-use Rattle.host.specs.Carry.{Carried, carried}
+use Rattle.carry.specs.Carry.{Carried, carried}
 
 -- a row of "The calls" each
 unfoldable pub planOf : Hpa → Tables → Call → Plan

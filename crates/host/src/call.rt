@@ -2,7 +2,6 @@
 ghost use mathlib.Core.Path.{_≡_};
 ghost use Rattle.ledger.specs.Tables.{lent};
 ghost use Rattle.host.specs.Calls.{planOf, outcome, gaugeAfter, ruleOf, callOf};
-use crate::carry;
 use calls::Answer;
 use calls::Call;
 use gauge::Gauge;
@@ -11,10 +10,7 @@ use ledger::codes::MAPPED;
 use ledger::codes::PENDING;
 use ledger::codes::RUNNABLE;
 use ledger::count;
-use ledger::range;
-use plan::domain;
 use plan::edit::Plan;
-use plan::page;
 use units::address::Hpa;
 
 // What a call answers, and the gauge after it.
@@ -34,10 +30,10 @@ fn plan_of(
     ensures { λ r. ⌜ r ≡ planOf base (lent (now (frames .entry)) (now (domains .entry)) (now (stock .entry)) (now (entries .entry))) c ⌝ }
 {
     match c {
-        Call::Create(f, key) => domain::plan_create(base, frames, domains, stock, entries, f, key),
-        Call::KeyConfig(d) => domain::plan_keyconfig(base, frames, domains, stock, entries, d),
-        Call::AddCx(d, f) => domain::plan_addcx(base, frames, domains, stock, entries, d, f),
-        Call::Init(d) => domain::plan_init(base, frames, domains, stock, entries, d),
+        Call::Create(f, key) => domains::plan_create(base, frames, domains, stock, entries, f, key),
+        Call::KeyConfig(d) => domains::plan_keyconfig(base, frames, domains, stock, entries, d),
+        Call::AddCx(d, f) => domains::plan_addcx(base, frames, domains, stock, entries, d, f),
+        Call::Init(d) => domains::plan_init(base, frames, domains, stock, entries, d),
         Call::SeptAdd(d, gpa, level, f) => trees::plan_septadd(
             base,
             frames,
@@ -61,7 +57,7 @@ fn plan_of(
             INITIALIZED,
             MAPPED,
         ),
-        Call::Finalize(d) => domain::plan_finalize(base, frames, domains, stock, entries, d),
+        Call::Finalize(d) => domains::plan_finalize(base, frames, domains, stock, entries, d),
         Call::PageAug(d, gpa, f) => trees::plan_page(
             base,
             frames,
@@ -84,7 +80,7 @@ fn plan_of(
             gpa,
             level,
         ),
-        Call::Track(d) => domain::plan_track(base, frames, domains, stock, entries, d),
+        Call::Track(d) => domains::plan_track(base, frames, domains, stock, entries, d),
         Call::Unblock(d, gpa, level) => trees::plan_unblock(
             base,
             frames,
@@ -114,10 +110,10 @@ fn plan_of(
             gpa,
             level,
         ),
-        Call::FlushDone(d) => domain::plan_flushdone(base, frames, domains, stock, entries, d),
-        Call::KeyFree(d) => domain::plan_keyfree(base, frames, domains, stock, entries, d),
-        Call::Reclaim(f) => page::plan_reclaim(base, frames, domains, stock, entries, f),
-        Call::ReadPage(f) => page::plan_readpage(base, frames, domains, stock, entries, f),
+        Call::FlushDone(d) => domains::plan_flushdone(base, frames, domains, stock, entries, d),
+        Call::KeyFree(d) => domains::plan_keyfree(base, frames, domains, stock, entries, d),
+        Call::Reclaim(f) => pages::plan_reclaim(base, frames, domains, stock, entries, f),
+        Call::ReadPage(f) => pages::plan_readpage(base, frames, domains, stock, entries, f),
         Call::ReadEntry(d, gpa, level) => trees::plan_readentry(
             base,
             frames,

@@ -6,7 +6,6 @@ use crate::call::Reply;
 use calls::Answer;
 use gauge::Gauge;
 use ledger::count;
-use ledger::range;
 use ledger::sizes;
 use stock::wipe;
 use units::address::Hpa;

@@ -3,4 +3,3 @@ pub mod Words
 pub mod Tables
 pub mod Count
 pub mod Sizes
-pub mod Range

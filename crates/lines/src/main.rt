@@ -4,7 +4,6 @@ use calls::Answer;
 use calls::Call;
 use libc::STDIN_FILENO;
 use libc::STDOUT_FILENO;
-use script::answer;
 use script::line;
 use script::line::LF;
 use script::line::Line;
@@ -122,27 +121,27 @@ fn shown(text: &[u8], n: usize) {
 
 fn answer_line(n: u64, a: Answer) {
     let mut out = [0u8; 160];
-    let length = answer::write_answer(&mut out, n, a);
+    let length = answers::write_answer(&mut out, n, a);
     shown(&out, length);
 }
 
 // A buffer of eight bytes holds the beginning.
 fn cut_line(n: u64, a: Answer) {
     let mut out = [0u8; 8];
-    let length = answer::write_answer(&mut out, n, a);
+    let length = answers::write_answer(&mut out, n, a);
     shown(&out, length);
     say(b"\n");
 }
 
 fn other_lines() {
     let mut out = [0u8; 160];
-    let first = answer::write_first(&mut out, 1024);
+    let first = answers::write_first(&mut out, 1024);
     shown(&out, first);
-    let unread = answer::write_unreadable(&mut out, 10001);
+    let unread = answers::write_unreadable(&mut out, 10001);
     shown(&out, unread);
-    let dark = answer::write_last(&mut out, 2, false);
+    let dark = answers::write_last(&mut out, 2, false);
     shown(&out, dark);
-    let lit = answer::write_last(&mut out, 768, true);
+    let lit = answers::write_last(&mut out, 768, true);
     shown(&out, lit);
 }
 

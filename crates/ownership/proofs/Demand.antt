@@ -32,7 +32,7 @@ use Rattle.calls.specs.declared.Answer.{Answer}
 use Rattle.calls.specs.declared.Answer.the-variants as answer
 use Rattle.calls.specs.declared.Call.{Call}
 use Rattle.plan.specs.declared.edit.Plan.{Plan}
-use Rattle.host.specs.Carry.{carried, applied}
+use Rattle.carry.specs.Carry.{carried, applied}
 use Rattle.host.specs.Calls.{Outcome, callOf, resetOf, marksOf, ruleOf, settled, gaugeAfter}
 use Rattle.ownership.specs.Owned.{View, kind, found, Found, Owns, Untouched, mine}
 use Rattle.ownership.specs.Reached.{frame, view, extent, Lists, roleOf, subject, left, leftBy, Accepted, Reached, Demand3}

@@ -20,7 +20,7 @@ use Rattle.stock.specs.Bits.{onLowest}
 use Rattle.stock.specs.declared.bits.Lowest.{Lowest}
 use Rattle.stock.specs.declared.bits.Lowest.the-variants as lowest
 use Rattle.ledger.specs.Codes.{TEARDOWN, RUNNABLE, FREE, NL-MAPPED, NL-BLOCKED}
-use Rattle.ledger.specs.Range.{domainOk}
+use Rattle.range.specs.Range.{domainOk}
 use Rattle.ledger.specs.Tables.{Tables}
 use Rattle.ledger.specs.Words.{DomainFits}
 use Rattle.ledger.specs.declared.words.Frame.{Frame}

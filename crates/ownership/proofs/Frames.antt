@@ -8,7 +8,7 @@ use Rattle.rules.specs.Rule.{iff}
 use Rattle.rules.proofs.Steps.{both-left, both-right}
 use Rattle.units.specs.Limits.{epochMost}
 use Rattle.ledger.specs.Codes.{EPT, REG}
-use Rattle.ledger.specs.Range.{frameLimits}
+use Rattle.range.specs.Range.{frameLimits}
 use Rattle.ledger.specs.Tables.{Tables, frameAt}
 use Rattle.ledger.specs.Words.{FrameFits}
 use Rattle.ledger.specs.declared.sizes.Sizes.{Sizes}

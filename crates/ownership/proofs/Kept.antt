@@ -28,7 +28,7 @@ use Rattle.plan.specs.declared.edit.StockEdit.the-variants as stock
 use Rattle.plan.specs.declared.edit.EntryEdit.{EntryEdit}
 use Rattle.plan.specs.declared.edit.EntryEdit.the-variants as entry
 use Rattle.plan.specs.declared.edit.Edit.{Edit}
-use Rattle.host.specs.Carry.{afterUse, applied}
+use Rattle.carry.specs.Carry.{afterUse, applied}
 use Rattle.ownership.specs.Owned.{View}
 use Rattle.ownership.specs.Reached.{view}
 use Rattle.ownership.proofs.Stores.{stored, newFrame, newEntry, newUse, wipedEntry, After, Within, SameLengths, same-lengths, after}

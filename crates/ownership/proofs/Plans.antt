@@ -19,7 +19,7 @@ use Rattle.units.specs.declared.address.Place.the-variants as place
 use Rattle.stock.proofs.Lowest.{lowest-found}
 use Rattle.ledger.specs.Codes.{NDA, TDR, EPT, REG, ASSIGNED, CONFIGURED, BLOCKED-LIFE, TEARDOWN, UNINITIALIZED, INITIALIZED, RUNNABLE}
 use Rattle.ledger.specs.Codes.{FREE, NL-MAPPED, MAPPED, PENDING, NL-BLOCKED, BLOCKED, PENDING-BLOCKED}
-use Rattle.ledger.specs.Range.{frameLimits}
+use Rattle.range.specs.Range.{frameLimits}
 use Rattle.ledger.specs.Tables.{Tables, frameAt}
 use Rattle.ledger.specs.declared.words.Frame.{Frame}
 use Rattle.ledger.specs.declared.words.Domain.{Domain}
@@ -32,10 +32,10 @@ use Rattle.calls.specs.declared.Call.the-variants as call
 use Rattle.plan.specs.Edits.{edit, entry, freeEntry, withLife, withOp, withEpoch, newEpt, newReg, withFrameEpoch}
 use Rattle.plan.specs.Lookup.{onLookup, domainFor, builtFor, onPlace}
 use Rattle.plan.specs.Entries.{blockedState, unblockedState, tableEmpty, freeAt}
-use Rattle.plan.specs.Domains as plans
-use Rattle.plan.specs.Domains.{refuse, gain, lose}
+use Rattle.domains.specs.Domains as plans
+use Rattle.plan.specs.Changes.{refuse, gain, lose, onFrame}
 use Rattle.trees.specs.Trees as trees
-use Rattle.plan.specs.Pages as pages
+use Rattle.pages.specs.Pages as pages
 use Rattle.plan.specs.declared.lookup.Found.{Found as Looked}
 use Rattle.plan.specs.declared.edit.StockEdit.{StockEdit}
 use Rattle.plan.specs.declared.edit.StockEdit.the-variants as stocks
@@ -46,7 +46,7 @@ use Rattle.plan.specs.declared.edit.DomainEdit.the-variants as domainEdits
 use Rattle.plan.specs.declared.edit.Edit.{Edit}
 use Rattle.plan.specs.declared.edit.Plan.{Plan}
 use Rattle.plan.specs.declared.edit.Plan.the-variants.{Say, Do}
-use Rattle.host.specs.Carry.{applied}
+use Rattle.carry.specs.Carry.{applied}
 use Rattle.host.specs.Calls.{planOf}
 use Rattle.ownership.specs.Owned.{page, shapeOf, shape, points, finds, without, Keyed, Belongs, kind, owner, number, life, listed, children}
 use Rattle.ownership.specs.Reached.{frame, view, extent, Lists, noted, placeIn, roleOf, subject, left}
@@ -121,7 +121,7 @@ module _ (base : Hpa) (t : Tables) (l : Lists) (st : State base t l) where
   refused n k h m = says (mild-no n k h m)
 
   -- ---- on a frame, on a spot; D's lookups
-  on-frame : (c : Call) (h : Hpa) (k : ℕ) (next : Pfn → Plan) → ((n : Pfn) → placeIn base t h ≡ place.At n → n .0 < length (t .frames) → Good base t l c (next n)) → Good base t l c (plans.onFrame base t h k next)
+  on-frame : (c : Call) (h : Hpa) (k : ℕ) (next : Pfn → Plan) → ((n : Pfn) → placeIn base t h ≡ place.At n → n .0 < length (t .frames) → Good base t l c (next n)) → Good base t l c (onFrame base t h k next)
   on-frame c h k next f = on-operand base t h (Good base t l c) (frame-operand base t h k) (refuse 1) next (λ j. answers (mild-no 1 j (omega arith) (omega arith))) f
 
   on-spot : (c : Call) (h : Hpa) (gpa : Gpa) (level least : ℕ) (next : Pfn → Plan) → ((n : Pfn) → placeIn base t h ≡ place.At n → n .0 < length (t .frames) → Good base t l c (next n)) → Good base t l c (trees.onSpot base t h gpa level least next)

@@ -16,7 +16,7 @@ use Rattle.stock.specs.Bits.{inUse, spareClear}
 use Rattle.ledger.specs.Codes.{FREE, PENDING-BLOCKED}
 use Rattle.ledger.specs.Tables.{Tables, domainAt}
 use Rattle.ledger.specs.Sizes.{sizesOf, sizesOk, tablesOf, lengthsOk}
-use Rattle.ledger.specs.Range.{frameLimits, frameOk, framesOk, entryOk, entriesOk, pageOk, pagesOk, domainOk, recordOk, blockOk, blocksOk, lentOk}
+use Rattle.range.specs.Range.{frameLimits, frameOk, framesOk, entryOk, entriesOk, pageOk, pagesOk, domainOk, recordOk, blockOk, blocksOk, lentOk}
 use Rattle.ledger.specs.declared.sizes.Sizes.{Sizes}
 use Rattle.ledger.specs.declared.words.Frame.{Frame}
 use Rattle.ledger.specs.declared.words.Domain.{Domain}

@@ -16,7 +16,7 @@ use Rattle.units.specs.declared.address.Gpa.{Gpa}
 use Rattle.units.specs.declared.address.Pfn.{Pfn}
 use Rattle.stock.specs.Bits.{inUse}
 use Rattle.ledger.specs.Codes.{NDA, TDR, EPT, FREE, NL-MAPPED}
-use Rattle.ledger.specs.Range.{frameLimits}
+use Rattle.range.specs.Range.{frameLimits}
 use Rattle.ledger.specs.Sizes.{tablesOf, rootOf}
 use Rattle.ledger.specs.Tables.{Tables}
 use Rattle.ledger.specs.declared.sizes.Sizes.{Sizes}

@@ -32,7 +32,7 @@ use Rattle.plan.specs.declared.edit.StockEdit.the-variants as stock
 use Rattle.plan.specs.declared.edit.EntryEdit.{EntryEdit}
 use Rattle.plan.specs.declared.edit.EntryEdit.the-variants as entry
 use Rattle.plan.specs.declared.edit.Edit.{Edit}
-use Rattle.host.specs.Carry.{afterFrame, afterPage, afterDomain, afterEntry, afterUse, afterRecord, afterBlock, applied}
+use Rattle.carry.specs.Carry.{afterFrame, afterPage, afterDomain, afterEntry, afterUse, afterRecord, afterBlock, applied}
 use Rattle.ownership.specs.Owned.{View}
 use Rattle.ownership.specs.Reached.{view}
 

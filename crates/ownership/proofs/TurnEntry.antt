@@ -24,7 +24,7 @@ use Rattle.plan.specs.declared.edit.StockEdit.the-variants as stocks
 use Rattle.plan.specs.declared.edit.EntryEdit.the-variants as entries
 use Rattle.plan.specs.declared.edit.Edit.{Edit}
 use Rattle.plan.specs.declared.edit.Plan.the-variants.{Do}
-use Rattle.host.specs.Carry.{applied}
+use Rattle.carry.specs.Carry.{applied}
 use Rattle.ownership.specs.Owned.{shapeOf, shape, points, Keyed, Belongs, kind, owner, number, life}
 use Rattle.ownership.specs.Reached.{frame, view, extent, Lists}
 use Rattle.ownership.proofs.Domain.{same-frame, same-entry, same-record}

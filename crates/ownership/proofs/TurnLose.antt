@@ -23,7 +23,7 @@ use Rattle.plan.specs.declared.edit.StockEdit.the-variants as stocks
 use Rattle.plan.specs.declared.edit.EntryEdit.the-variants as entries
 use Rattle.plan.specs.declared.edit.Edit.{Edit}
 use Rattle.plan.specs.declared.edit.Plan.the-variants.{Do}
-use Rattle.host.specs.Carry.{applied}
+use Rattle.carry.specs.Carry.{applied}
 use Rattle.ownership.specs.Owned.{Extent, without, View, shape, points, found, Keyed, Belongs, kind, owner, number, life, listed, children}
 use Rattle.ownership.specs.Reached.{frame, view, extent, Lists}
 use Rattle.ownership.proofs.Domain.{Mine, SameFrame, same-frame, same-entry, SameRecord, same-record}

@@ -10,14 +10,14 @@ use lib.ListN.{length}
 use Rattle.units.specs.Limits.{tableEntries}
 use Rattle.units.specs.declared.address.Hpa.{Hpa}
 use Rattle.ledger.specs.Codes.{TEARDOWN}
-use Rattle.ledger.specs.Range.{domainOk}
+use Rattle.range.specs.Range.{domainOk}
 use Rattle.ledger.specs.Tables.{Tables}
 use Rattle.ledger.specs.declared.sizes.Sizes.{Sizes}
 use Rattle.ledger.specs.declared.words.Frame.{Frame}
 use Rattle.ledger.specs.declared.words.Domain.{Domain}
 use Rattle.calls.specs.Answers.{numberOf}
 use Rattle.calls.specs.declared.Answer.{Answer}
-use Rattle.plan.specs.Domains.{become}
+use Rattle.plan.specs.Changes.{become}
 use Rattle.plan.specs.Edits.{edit}
 use Rattle.plan.specs.declared.edit.FrameEdit.the-variants as frames
 use Rattle.plan.specs.declared.edit.PageEdit.the-variants as pages
@@ -27,7 +27,7 @@ use Rattle.plan.specs.declared.edit.EntryEdit.the-variants as entries
 use Rattle.plan.specs.declared.edit.Edit.{Edit}
 use Rattle.plan.specs.declared.edit.Plan.{Plan}
 use Rattle.plan.specs.declared.edit.Plan.the-variants.{Say, Do}
-use Rattle.host.specs.Carry.{applied}
+use Rattle.carry.specs.Carry.{applied}
 use Rattle.ownership.specs.Owned.{View, shape, points, finds, Keyed, Block, root, below, kind, owner, number, life, listed, children}
 use Rattle.ownership.specs.Reached.{view, extent, Lists, noted}
 use Rattle.ownership.proofs.Domain.{same-frame, same-entry, same-record}

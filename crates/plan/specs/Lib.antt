@@ -1,5 +1,4 @@
 pub mod Edits
 pub mod Lookup
-pub mod Domains
+pub mod Changes
 pub mod Entries
-pub mod Pages

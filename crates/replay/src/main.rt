@@ -3,7 +3,6 @@
 use entry::Ask;
 use gauge::Gauge;
 use ledger::count;
-use script::answer;
 use session::Feed;
 use session::Turn;
 use units::address::Hpa;
@@ -87,7 +86,7 @@ fn run_script(
 }
 
 fn begin(out: &mut [u8], gauge: Gauge) -> State {
-    let n = answer::write_first(out, FRAMES);
+    let n = answers::write_first(out, FRAMES);
     State {
         gauge,
         feed: Feed { lines: 0, held: 0 },
@@ -99,7 +98,7 @@ fn begin(out: &mut [u8], gauge: Gauge) -> State {
 fn finish(frames: &[u64], out: &mut [u8], s: State) {
     let done = flush(out, s);
     let g = done.gauge;
-    let last = answer::write_last(out, count::used_frames(frames), g.lamp);
+    let last = answers::write_last(out, count::used_frames(frames), g.lamp);
     let n = session::within(last, out);
     io::write_all(STDOUT, &out[..n]);
 }
@@ -171,7 +170,7 @@ fn stop_at(out: &mut [u8], old: State) -> State {
     let feed = s.feed;
     let at = session::within(s.pending, out);
     let most = out.len();
-    let n = answer::write_unreadable(&mut out[at..], session::LINES_MOST + 1);
+    let n = answers::write_unreadable(&mut out[at..], session::LINES_MOST + 1);
     State {
         gauge,
         feed,

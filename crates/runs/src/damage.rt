@@ -1,7 +1,7 @@
 // Words that no call leaves behind, written by hand: answers 12, 13 and 14.
+use crate::ask;
 use crate::step;
 use crate::step::Step;
-use crate::step::at;
 use calls::Call;
 use units::address::Gpa;
 use units::address::Hpa;
@@ -16,8 +16,8 @@ const ALL_CHILDREN: u64 = 1090536608;
 pub(crate) fn limits(n: u64) -> Step {
     match n {
         8 => Step::Record(NEXT_TO_LAST),
-        9 => Step::Ask(1, Call::Track(at(0))),
-        10 => Step::Ask(2, Call::Track(at(0))),
+        9 => ask::track(1, 0),
+        10 => ask::track(2, 0),
         _ => step::built(n),
     }
 }
@@ -27,17 +27,17 @@ pub(crate) fn ranges(n: u64) -> Step {
     match n {
         0 => Step::Reset,
         1 => Step::Frame(511, 5),
-        2 => Step::Ask(1, Call::ReadPage(at(0))),
+        2 => ask::readpage(1, 0),
         3 => Step::Ask(2, Call::ReadPage(Hpa(1))),
         4 => Step::Frame(511, 0),
-        5 => Step::Ask(3, Call::ReadPage(at(0))),
+        5 => ask::readpage(3, 0),
         6 => Step::Stock(64),
-        7 => Step::Ask(4, Call::ReadPage(at(0))),
+        7 => ask::readpage(4, 0),
         8 => Step::Stock(16),
-        9 => Step::Ask(5, Call::ReadPage(at(0))),
+        9 => ask::readpage(5, 0),
         10 => Step::Stock(0),
         11 => Step::Record(127),
-        12 => Step::Ask(6, Call::Create(at(0), 32)),
+        12 => ask::create(6, 0, 32),
         _ => Step::End,
     }
 }
@@ -45,18 +45,18 @@ pub(crate) fn ranges(n: u64) -> Step {
 // An EPT owned by a control page, a child count at the frames, a TDR whose record is unused.
 pub(crate) fn owners(n: u64) -> Step {
     match n {
-        8 => Step::Ask(1, Call::SeptAdd(at(0), Gpa(0), 3, at(5))),
+        8 => ask::septadd(1, Gpa(0), 3, 5),
         9 => Step::Frame(5, 11),
-        10 => Step::Ask(2, Call::SeptAdd(at(0), Gpa(0), 2, at(6))),
-        11 => Step::Ask(3, Call::Block(at(0), Gpa(0), 3)),
-        12 => Step::Ask(4, Call::Reclaim(at(5))),
+        10 => ask::septadd(2, Gpa(0), 2, 6),
+        11 => ask::block(3, Gpa(0), 3),
+        12 => ask::reclaim(4, 5),
         13 => Step::Frame(5, 3),
-        14 => Step::Ask(5, Call::SeptAdd(at(0), Gpa(0), 2, at(6))),
+        14 => ask::septadd(5, Gpa(0), 2, 6),
         15 => Step::Record(ALL_CHILDREN),
-        16 => Step::Ask(6, Call::SeptAdd(at(0), Gpa(0), 1, at(7))),
+        16 => ask::septadd(6, Gpa(0), 1, 7),
         17 => Step::Stock(3),
-        18 => Step::Ask(7, Call::KeyConfig(at(0))),
-        19 => Step::Ask(8, Call::Reclaim(at(0))),
+        18 => ask::keyconfig(7, 0),
+        19 => ask::reclaim(8, 0),
         _ => step::built(n),
     }
 }

@@ -1,4 +1,5 @@
 // A domain from create to init, and answers 1 to 5.
+use crate::ask;
 use crate::step;
 use crate::step::Step;
 use crate::step::at;
@@ -10,16 +11,16 @@ use units::address::Hpa;
 pub(crate) fn build(n: u64) -> Step {
     match n {
         0 => Step::Reset,
-        1 => Step::Ask(1, Call::Create(at(0), 32)),
-        2 => Step::Ask(2, Call::KeyConfig(at(0))),
-        3 => Step::Ask(3, Call::AddCx(at(0), at(1))),
-        4 => Step::Ask(4, Call::AddCx(at(0), at(2))),
-        5 => Step::Ask(5, Call::AddCx(at(0), at(3))),
-        6 => Step::Ask(6, Call::AddCx(at(0), at(4))),
-        7 => Step::Ask(7, Call::Init(at(0))),
-        8 => Step::Ask(8, Call::ReadPage(at(1))),
-        9 => Step::Ask(9, Call::ReadPage(at(0))),
-        10 => Step::Ask(10, Call::ReadPage(at(5))),
+        1 => ask::create(1, 0, 32),
+        2 => ask::keyconfig(2, 0),
+        3 => ask::addcx(3, 0, 1),
+        4 => ask::addcx(4, 0, 2),
+        5 => ask::addcx(5, 0, 3),
+        6 => ask::addcx(6, 0, 4),
+        7 => ask::init(7, 0),
+        8 => ask::readpage(8, 1),
+        9 => ask::readpage(9, 0),
+        10 => ask::readpage(10, 5),
         _ => Step::End,
     }
 }
@@ -30,10 +31,10 @@ pub(crate) fn operands(n: u64) -> Step {
         0 => Step::Reset,
         1 => Step::Ask(1, Call::Create(Hpa(1073741825), 32)),
         2 => Step::Ask(2, Call::Create(Hpa(262144), 32)),
-        3 => Step::Ask(3, Call::Create(at(512), 32)),
-        4 => Step::Ask(4, Call::Create(at(0), 31)),
-        5 => Step::Ask(5, Call::Create(at(0), 48)),
-        6 => Step::Ask(6, Call::Create(at(511), 47)),
+        3 => ask::create(3, 512, 32),
+        4 => ask::create(4, 0, 31),
+        5 => ask::create(5, 0, 48),
+        6 => ask::create(6, 511, 47),
         7 => Step::Ask(7, Call::Block(at(511), Gpa(2093056), 1)),
         8 => Step::Ask(8, Call::Block(at(511), Gpa(0), 4)),
         9 => Step::Ask(9, Call::SeptAdd(at(511), Gpa(0), 0, at(1))),
@@ -45,12 +46,12 @@ pub(crate) fn operands(n: u64) -> Step {
 pub(crate) fn kinds(n: u64) -> Step {
     match n {
         0 => Step::Reset,
-        1 => Step::Ask(1, Call::Create(at(0), 32)),
-        2 => Step::Ask(2, Call::Create(at(0), 33)),
-        3 => Step::Ask(3, Call::KeyConfig(at(1))),
-        4 => Step::Ask(4, Call::Reclaim(at(1))),
-        5 => Step::Ask(5, Call::KeyConfig(at(0))),
-        6 => Step::Ask(6, Call::AddCx(at(0), at(0))),
+        1 => ask::create(1, 0, 32),
+        2 => ask::create(2, 0, 33),
+        3 => ask::keyconfig(3, 1),
+        4 => ask::reclaim(4, 1),
+        5 => ask::keyconfig(5, 0),
+        6 => ask::addcx(6, 0, 0),
         _ => Step::End,
     }
 }
@@ -59,16 +60,16 @@ pub(crate) fn kinds(n: u64) -> Step {
 pub(crate) fn life(n: u64) -> Step {
     match n {
         0 => Step::Reset,
-        1 => Step::Ask(1, Call::Create(at(0), 32)),
-        2 => Step::Ask(2, Call::AddCx(at(0), at(1))),
-        3 => Step::Ask(3, Call::Init(at(0))),
-        4 => Step::Ask(4, Call::KeyFree(at(0))),
-        5 => Step::Ask(5, Call::KeyConfig(at(0))),
-        6 => Step::Ask(6, Call::KeyConfig(at(0))),
-        7 => Step::Ask(7, Call::Init(at(0))),
-        8 => Step::Ask(8, Call::Finalize(at(0))),
-        9 => Step::Ask(9, Call::FlushDone(at(0))),
-        10 => Step::Ask(10, Call::FlushDone(at(0))),
+        1 => ask::create(1, 0, 32),
+        2 => ask::addcx(2, 0, 1),
+        3 => ask::init(3, 0),
+        4 => ask::keyfree(4, 0),
+        5 => ask::keyconfig(5, 0),
+        6 => ask::keyconfig(6, 0),
+        7 => ask::init(7, 0),
+        8 => ask::finalize(8, 0),
+        9 => ask::flushdone(9, 0),
+        10 => ask::flushdone(10, 0),
         _ => Step::End,
     }
 }
@@ -76,12 +77,12 @@ pub(crate) fn life(n: u64) -> Step {
 // Four control pages, and op states.
 pub(crate) fn states(n: u64) -> Step {
     match n {
-        8 => Step::Ask(1, Call::AddCx(at(0), at(5))),
-        9 => Step::Ask(2, Call::Init(at(0))),
-        10 => Step::Ask(3, Call::PageAug(at(0), Gpa(0), at(8))),
-        11 => Step::Ask(4, Call::Finalize(at(0))),
-        12 => Step::Ask(5, Call::PageAdd(at(0), Gpa(0), at(8))),
-        13 => Step::Ask(6, Call::Finalize(at(0))),
+        8 => ask::addcx(1, 0, 5),
+        9 => ask::init(2, 0),
+        10 => ask::pageaug(3, Gpa(0), 8),
+        11 => ask::finalize(4, 0),
+        12 => ask::pageadd(5, Gpa(0), 8),
+        13 => ask::finalize(6, 0),
         _ => step::built(n),
     }
 }

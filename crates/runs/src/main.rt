@@ -1,5 +1,6 @@
 // Sequences of host calls, run through the public calls on lent tables: a line a step, with the answer, all that is read out, the frames in
 // use and the lamp. Each sequence begins with a reset. The expected lines, `stdout` beside this folder, were written from the paper.
+mod ask;
 mod damage;
 mod domains;
 mod gauges;

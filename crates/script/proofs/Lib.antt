@@ -5,5 +5,4 @@ pub mod Ons
 pub mod Fits
 pub mod Rows
 pub mod Fields
-pub mod Writes
 pub mod Decimals

@@ -2,4 +2,3 @@ pub mod Text
 pub mod Number
 pub mod Rows
 pub mod Lines
-pub mod Answers

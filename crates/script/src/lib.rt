@@ -1,4 +1,3 @@
-// The text of a script: a line read as a call, an answer written as a line.
-pub mod answer;
+// The text of a script: a line read as a call.
 pub mod line;
 pub mod number;

@@ -9,7 +9,7 @@ use Rattle.units.specs.declared.address.Hpa.{Hpa}
 use Rattle.gauge.specs.declared.Gauge.{Gauge}
 use Rattle.ledger.specs.Tables.{Tables}
 use Rattle.host.specs.Calls.{callOf}
-use Rattle.script.specs.Answers.{Pen, wrote, answerLine, unreadableLine}
+use Rattle.answers.specs.Answers.{Pen, wrote, answerLine, unreadableLine}
 use Rattle.script.specs.Lines.{lineOf}
 use Rattle.script.specs.declared.line.Line.{Line}
 use Rattle.script.specs.declared.line.Line.the-variants.{Call, Unreadable}

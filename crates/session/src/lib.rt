@@ -4,11 +4,10 @@ ghost use mathlib.Core.Path.{_≡_};
 ghost use Prim.Native.Nat.{_+_, _≤_};
 ghost use lib.ListN.{length, take};
 ghost use Rattle.ledger.specs.Tables.{lent};
-ghost use Rattle.script.specs.Answers.{pen, wrote};
+ghost use Rattle.answers.specs.Answers.{pen, wrote};
 ghost use Rattle.session.specs.Session.{turnOf, heldAfter, least, answered, replied};
 use entry::Ask;
 use gauge::Gauge;
-use script::answer;
 use script::line;
 use script::line::Line;
 use units::address::Hpa;
@@ -111,14 +110,14 @@ pub fn reply(
 {
     match line::read_line(text) {
         Line::Unreadable => {
-            let wrote = answer::write_unreadable(out, number);
+            let wrote = answers::write_unreadable(out, number);
             Replied { gauge: g, wrote }
         }
         Line::Call(c) => {
             let r = entry::entered(base, frames, domains, stock, entries, g, Ask::Host(c));
             let a = r.answer;
             let gauge = r.gauge;
-            let wrote = answer::write_answer(out, number, a);
+            let wrote = answers::write_answer(out, number, a);
             Replied { gauge, wrote }
         }
     }

@@ -8,20 +8,21 @@ use lib.ListN.{length}
 use Rattle.rules.specs.Rule.{iff}
 use Rattle.gauge.specs.Marks.{marksOk}
 use Rattle.gauge.specs.declared.Gauge.{Gauge}
-use Rattle.ledger.specs.Range.{lentOk}
+use Rattle.range.specs.Range.{lentOk}
 use Rattle.calls.specs.Answers.{valuesOf, numberOf}
 use Rattle.calls.specs.declared.Answer.the-variants.{No}
 use Rattle.plan.specs.declared.edit.Plan.{Plan}
 use Rattle.plan.specs.declared.edit.Plan.the-variants.{Say, Do}
-use Rattle.host.specs.Carry.{carried}
+use Rattle.carry.specs.Carry.{carried}
 use Rattle.units.specs.declared.address.Hpa.{Hpa}
 use Rattle.ledger.specs.Codes.{TDR}
 use Rattle.ledger.specs.Tables.{Tables}
 use Rattle.calls.specs.declared.Call.{Call}
 use Rattle.calls.specs.declared.Call.the-variants as call
-use Rattle.plan.specs.Domains.{gain, lose, keyconfigPlan, initPlan, finalizePlan, trackPlan, flushdonePlan, keyfreePlan, enlistAt, addcxPlan, newRecord, createAt, createPlan}
+use Rattle.plan.specs.Changes.{gain, lose}
+use Rattle.domains.specs.Domains.{keyconfigPlan, initPlan, finalizePlan, trackPlan, flushdonePlan, keyfreePlan, enlistAt, addcxPlan, newRecord, createAt, createPlan}
 use Rattle.trees.specs.Trees.{septAt, pageAt, septaddPlan, pagePlan, blockAt, blockPlan, unblockAt, unblockPlan, pageremoveAt, pageremovePlan, septremoveAt, septremovePlan, readentryAt, readentryPlan}
-use Rattle.plan.specs.Pages.{reclaimTdr, reclaimChild, reclaimAt, reclaimPlan, readpagePlan}
+use Rattle.pages.specs.Pages.{reclaimTdr, reclaimChild, reclaimAt, reclaimPlan, readpagePlan}
 use Rattle.host.specs.Calls.{Outcome, outcome, planOf, settled, ruleOf, callOf}
 use Rattle.theorems.specs.Checks.{kindIs, window, ofTdr, ofChild, reads, checksOf, allChecks}
 use Rattle.theorems.specs.Order.{Reason, tables, marks, operand, Check, check, firstNo, inOrder, Fails, here, later, Passes, none, one}

@@ -28,7 +28,7 @@ use Rattle.calls.specs.declared.Answer.{Answer}
 use Rattle.calls.specs.declared.Answer.the-variants as answer
 use Rattle.plan.specs.Lookup.{onPlace, onOperand, onLookup, frameOperand, spotOperands, domainFor, builtFor}
 use Rattle.plan.specs.Entries.{walkOf, entryFor, onReach}
-use Rattle.plan.specs.Domains.{refuse}
+use Rattle.plan.specs.Changes.{refuse}
 use Rattle.plan.specs.declared.lookup.Operand.the-variants.{Frame, Bad}
 use Rattle.plan.specs.declared.lookup.Found.{Found}
 use Rattle.plan.specs.declared.lookup.Lookup.{Lookup}

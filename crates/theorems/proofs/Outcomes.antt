@@ -14,7 +14,7 @@ use Rattle.calls.specs.declared.Answer.the-variants as answer
 use Rattle.calls.specs.declared.Call.{Call}
 use Rattle.plan.specs.declared.edit.Plan.{Plan}
 use Rattle.plan.specs.declared.edit.Plan.the-variants.{Say, Do}
-use Rattle.host.specs.Carry.{carried}
+use Rattle.carry.specs.Carry.{carried}
 use Rattle.host.specs.Calls.{Outcome, outcome, planOf, gaugeAfter, settled, ruleOf, callOf, resetOf, marksOf}
 use Rattle.theorems.specs.Checks.{reads}
 use Rattle.theorems.proofs.Firsts.{Tells, TellsP}

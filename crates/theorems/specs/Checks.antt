@@ -16,7 +16,7 @@ use Rattle.gauge.specs.Marks.{marksOk}
 use Rattle.gauge.specs.declared.Gauge.{Gauge}
 use Rattle.stock.specs.Bits.{inUse, lowestUnused, onLowest}
 use Rattle.ledger.specs.Codes.{NDA, TDR, EPT, ASSIGNED, CONFIGURED, BLOCKED-LIFE, TEARDOWN, UNINITIALIZED, INITIALIZED, RUNNABLE, FREE, NL-MAPPED, PENDING, NL-BLOCKED, BLOCKED, PENDING-BLOCKED}
-use Rattle.ledger.specs.Range.{lentOk}
+use Rattle.range.specs.Range.{lentOk}
 use Rattle.ledger.specs.Sizes.{tablesOf}
 use Rattle.ledger.specs.Tables.{Tables, frameAt, domainAt, entryAt}
 use Rattle.ledger.specs.declared.words.Entry.{Entry}
@@ -25,7 +25,7 @@ use Rattle.walk.specs.declared.Walk.{Walk}
 use Rattle.calls.specs.declared.Call.{Call}
 use Rattle.calls.specs.declared.Call.the-variants as call
 use Rattle.plan.specs.Lookup.{onPlace, rootIn}
-use Rattle.plan.specs.Domains.{keyUnused}
+use Rattle.domains.specs.Domains.{keyUnused}
 use Rattle.plan.specs.Entries.{walkOf, isTracked, tableEmpty}
 use Rattle.plan.specs.declared.lookup.Found.{Found}
 use Rattle.theorems.specs.Order.{tables, marks, operand, domain, record′, lifecycle, pages, opState, offered, key, stopped, foreign, entry, untracked, frame, remain, stock, epoch, count, Check, check}

@@ -8,7 +8,7 @@ use Rattle.units.specs.declared.address.Pfn.{Pfn}
 use Rattle.ledger.specs.Tables.{Tables}
 use Rattle.calls.specs.declared.Answer.{Answer}
 use Rattle.calls.specs.declared.Answer.the-variants.{No}
-use Rattle.plan.specs.Domains.{refuse}
+use Rattle.plan.specs.Changes.{refuse}
 use Rattle.plan.specs.Lookup.{onOperand, onLookup, spotOperands, liveFor}
 use Rattle.plan.specs.declared.edit.Plan.{Plan}
 use Rattle.plan.specs.declared.edit.Plan.the-variants.{Say}

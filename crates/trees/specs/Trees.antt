@@ -17,7 +17,7 @@ use Rattle.calls.specs.declared.Answer.the-variants as answer
 use Rattle.plan.specs.Edits.{edit, newEpt, newReg, withFrameEpoch, entry, freeEntry}
 use Rattle.plan.specs.Lookup.{onOperand, onLookup, spotOperands, builtFor, liveFor}
 use Rattle.plan.specs.Entries.{walkOf, entryFor, onReach, blockedState, unblockedState, isTracked, tableEmpty}
-use Rattle.plan.specs.Domains.{refuse, onFrame, gain, lose}
+use Rattle.plan.specs.Changes.{refuse, onFrame, gain, lose}
 use Rattle.plan.specs.declared.lookup.Found.{Found}
 use Rattle.plan.specs.declared.lookup.Lookup.{Lookup}
 use Rattle.plan.specs.declared.lookup.Lookup.the-variants.{Not}

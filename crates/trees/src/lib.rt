@@ -1,7 +1,7 @@
 // The calls on a domain's tree: septadd, pageadd, pageaug, block, unblock, pageremove, septremove, readentry.
 ghost use mathlib.Core.Path.{_≡_};
 ghost use Rattle.ledger.specs.Tables.{lent};
-ghost use Rattle.plan.specs.Domains.{lose};
+ghost use Rattle.plan.specs.Changes.{lose};
 ghost use Rattle.plan.specs.Edits.{withFrameEpoch, freeEntry};
 ghost use Rattle.plan.specs.Entries.{isTracked};
 ghost use Rattle.trees.specs.Trees.{liveAt, septAt, pageAt, septaddPlan, pagePlan, blockAt, blockPlan, unblockAt, unblockPlan, pageremoveAt, pageremovePlan, septremoveAt, septremovePlan, readentryAt, readentryPlan};
@@ -21,7 +21,7 @@ use ledger::sizes;
 use ledger::tables;
 use ledger::words::Entry;
 use ledger::words::Frame;
-use plan::domain;
+use plan::change;
 use plan::edit::DomainEdit;
 use plan::edit::Edit;
 use plan::edit::EntryEdit;
@@ -99,7 +99,7 @@ fn sept_at(
                     frame: f,
                 },
             );
-            domain::gains(
+            change::gains(
                 frames.len(),
                 x,
                 f,
@@ -142,7 +142,7 @@ fn page_at(
                 epoch: 0,
             };
             let mapped = EntryEdit::Set(b, i, Entry { state, frame: f });
-            domain::gains(
+            change::gains(
                 frames.len(),
                 x,
                 f,
@@ -341,7 +341,7 @@ fn frees(x: Found, frame: Pfn, stock: StockEdit, block: usize, index: usize) -> 
         state: FREE,
         frame: Pfn(0),
     };
-    domain::loses(x, frame, stock, EntryEdit::Set(block, index, free))
+    change::loses(x, frame, stock, EntryEdit::Set(block, index, free))
 }
 
 fn pageremove_at(

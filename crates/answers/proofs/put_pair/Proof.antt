@@ -1,0 +1,13 @@
+use Rattle.answers.proofs.Writes.{writes}
+use borrow.Author.Needs.{needs}
+use Rattle.answers.proofs.put_pair.Statement.{statement}
+use Rattle.answers.proofs.put_pair.Tie as tie
+
+pub put-pair-spec : {M : Type 1} → statement M
+put-pair-spec =
+    tie.close
+    (tie.spec
+    (λ c κs. search needs)
+    (λ c κs. search needs)
+    (λ c. search needs)
+    (λ c. search writes))

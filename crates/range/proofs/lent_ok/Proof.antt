@@ -1,0 +1,20 @@
+use Rattle.rules.proofs.Steps.{steps}
+use Rattle.range.specs.Range.{lentOk}
+use borrow.Author.Needs.{needs}
+use Rattle.range.proofs.lent_ok.Statement.{statement}
+use Rattle.range.proofs.lent_ok.Tie as tie
+
+pub lent-ok-spec : {M : Type 1} → statement M
+unfolding lentOk
+lent-ok-spec =
+    tie.close
+    (tie.spec
+    (λ c κs. search needs)
+    (λ c. search steps depth 12)
+    (λ c κs. search needs)
+    (λ c κs. search needs)
+    (λ c. search steps depth 12)
+    (λ c κs. search needs)
+    (λ c. search steps depth 12)
+    (λ c κs. search needs)
+    (λ c. search steps depth 12))

@@ -1,0 +1,16 @@
+use Rattle.rules.proofs.Steps.{steps}
+use Rattle.range.specs.Range.{recordOk}
+use borrow.Author.Needs.{needs}
+use Rattle.range.proofs.record_ok.Statement.{statement}
+use Rattle.range.proofs.record_ok.Tie as tie
+
+pub record-ok-spec : {M : Type 1} → statement M
+unfolding recordOk
+record-ok-spec =
+    tie.close
+    (tie.spec
+    (λ c κs. search needs)
+    (λ c κs. search needs)
+    (λ c. search steps depth 12)
+    (λ c κs. search needs)
+    (λ c. search steps depth 12))

@@ -1,0 +1,98 @@
+-- Answer 13: "any stored number or code outside its range (a frame's epoch from 0, a child count up to the frames)", and, of
+-- "What is written down", "A place without use [..] holds 0; another value there is out of range", "answer 13 doesn't look into
+-- unused ones".
+use Prim.Native.Nat.{ℕ, _+_, _-_, _/_}
+use mathlib.Core.Bool.{Bool, true, false}
+use mathlib.Core.List.{List}
+use lib.ListN.{length}
+use lib.Dec.{eqb, ltb, leb}
+use Rattle.rules.specs.Rule.{iff, need, given}
+use Rattle.rules.specs.Upto.{allFrom}
+use Rattle.units.specs.Limits.{tableEntries, controlPages, epochMost, keyOk, epochOk}
+use Rattle.units.specs.declared.address.Hpa.{Hpa}
+use Rattle.stock.specs.Bits.{inUse, spareClear}
+use Rattle.ledger.specs.Codes.{NDA, TDR, TDCX, EPT, REG, TEARDOWN, RUNNABLE, FREE, PENDING-BLOCKED}
+use Rattle.ledger.specs.Tables.{Tables, frameAt, domainAt, pageAt, entryAt}
+use Rattle.ledger.specs.Sizes.{sizesOf, sizesOk}
+use Rattle.ledger.specs.declared.sizes.Sizes.{Sizes}
+use Rattle.ledger.specs.declared.words.Domain.{Domain}
+use Rattle.range.specs.declared.FrameLimits.{FrameLimits}
+
+-- owner, number and epoch each stay below this: "owner (the TDR's frame, for types 2 to 4) [..] for EPT its table number; for TDR its
+-- domain record number", "only EPT and REG have epochs"; 1 where the type lacks the number, and no number is right for another type
+abbrev pub below : ℕ → ℕ → ℕ → FrameLimits
+below o n e = record { owner = o; number = n; epoch = e }
+
+unfoldable pub frameLimits : Sizes → ℕ → FrameLimits
+frameLimits s kind =
+    iff (eqb kind NDA) (below 1 1 1) (
+    iff (eqb kind TDR) (below 1 (s .records) 1) (
+    iff (eqb kind TDCX) (below (s .frames) 1 1) (
+    iff (eqb kind EPT) (below (s .frames) (s .tables) (epochMost + 1)) (
+    iff (eqb kind REG) (below (s .frames) 1 (epochMost + 1))
+    (below 0 0 0)))))
+
+unfoldable pub frameOk : Sizes → List ℕ → ℕ → Bool
+frameOk s fs n =
+    given (frameAt fs (record { 0 = n })) λ f.
+    given (frameLimits s (f .kind)) λ l.
+    need (ltb (f .owner .0) (l .owner)) false (
+    need (ltb (f .number) (l .number)) false
+    (ltb (f .epoch) (l .epoch)))
+
+unfoldable pub framesOk : Sizes → List ℕ → Bool
+framesOk s fs = allFrom (frameOk s fs) 0 (length fs)
+
+-- "and a frame unless FREE"
+unfoldable pub entryOk : ℕ → List ℕ → ℕ → ℕ → Bool
+entryOk frames es b i =
+    given (entryAt es b i) λ e.
+    need (leb (e .state) PENDING-BLOCKED) false (
+    iff (eqb (e .state) FREE) (eqb (e .frame .0) 0) (ltb (e .frame .0) frames))
+
+unfoldable pub entriesOk : ℕ → List ℕ → ℕ → Bool
+entriesOk frames es b = allFrom (entryOk frames es b) 0 tableEntries
+
+-- "its control pages and how many are listed (frame 0 may be one)"
+unfoldable pub pageOk : ℕ → ℕ → List ℕ → ℕ → ℕ → Bool
+pageOk frames listed ds r i =
+    given (pageAt ds r i) λ n.
+    iff (ltb i listed) (ltb (n .0) frames) (eqb (n .0) 0)
+
+unfoldable pub pagesOk : ℕ → ℕ → List ℕ → ℕ → Bool
+pagesOk frames listed ds r = allFrom (pageOk frames listed ds r) 0 controlPages
+
+unfoldable pub domainOk : ℕ → Domain → Bool
+domainOk frames d =
+    need (keyOk (d .key)) false (
+    need (leb (d .life) TEARDOWN) false (
+    need (leb (d .op) RUNNABLE) false (
+    need (leb (d .listed) controlPages) false (
+    need (leb (d .children) frames) false
+    (epochOk (d .epoch))))))
+
+unfoldable pub recordOk : ℕ → List ℕ → ℕ → Bool
+recordOk frames ds r =
+    given (domainAt ds r) λ d.
+    need (domainOk frames d) false
+    (pagesOk frames (d .listed) ds r)
+
+-- a block in use is a table, or the root of a record, and then the record is in use too
+unfoldable pub blockOk : Sizes → List ℕ → List ℕ → List ℕ → ℕ → Bool
+blockOk s ds st es b =
+    need (inUse st b) true (
+    need (entriesOk (s .frames) es b) false (
+    iff (ltb b (s .tables)) true
+    (recordOk (s .frames) ds (b - s .tables))))
+
+unfoldable pub blocksOk : Sizes → List ℕ → List ℕ → List ℕ → Bool
+blocksOk s ds st es = allFrom (blockOk s ds st es) 0 (length es / tableEntries)
+
+-- all of answer 13 but a lent gauge's marks
+unfoldable pub lentOk : Hpa → Tables → Bool
+lentOk base t =
+    need (sizesOk base (length (t .frames)) (length (t .domains)) (length (t .stock)) (length (t .entries))) false (
+    given (sizesOf (length (t .frames)) (length (t .domains)) (length (t .entries))) λ s.
+    need (spareClear (t .stock) (length (t .entries) / tableEntries)) false (
+    need (framesOk s (t .frames)) false
+    (blocksOk s (t .domains) (t .stock) (t .entries))))

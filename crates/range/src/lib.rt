@@ -1,0 +1,225 @@
+// Answer 13: whether every stored number and code is in its range, in one pass over the frames and one over the blocks in use.
+ghost use mathlib.Core.Path.{_≡_};
+ghost use Rattle.ledger.specs.Tables.{lent};
+ghost use Rattle.range.specs.Range.{below, frameLimits, frameOk, framesOk, entryOk, entriesOk, pageOk, pagesOk, domainOk, recordOk, blockOk, blocksOk, lentOk};
+use ledger::codes::EPT;
+use ledger::codes::FREE;
+use ledger::codes::NDA;
+use ledger::codes::PENDING_BLOCKED;
+use ledger::codes::REG;
+use ledger::codes::RUNNABLE;
+use ledger::codes::TDCX;
+use ledger::codes::TDR;
+use ledger::codes::TEARDOWN;
+use ledger::sizes;
+use ledger::sizes::Sizes;
+use ledger::tables;
+use ledger::words::Domain;
+use stock::bits;
+use units::address::Hpa;
+use units::address::Pfn;
+use units::limits;
+use units::limits::CONTROL_PAGES;
+use units::limits::EPOCH_MOST;
+use units::limits::TABLE_ENTRIES;
+
+// What each number of a frame of a type stays below: 1 where the type lacks it, so that it holds 0.
+pub struct FrameLimits {
+    pub owner: u64,
+    pub number: u64,
+    pub epoch: u64,
+}
+
+fn below(owner: u64, number: u64, epoch: u64) -> FrameLimits
+    ensures { λ r. ⌜ r ≡ below owner number epoch ⌝ }
+{
+    FrameLimits {
+        owner,
+        number,
+        epoch,
+    }
+}
+
+fn frame_limits(s: Sizes, kind: u64) -> FrameLimits
+    ensures { λ r. ⌜ r ≡ frameLimits s kind ⌝ }
+{
+    if kind == NDA {
+        return below(1, 1, 1);
+    }
+    if kind == TDR {
+        return below(1, s.records as u64, 1);
+    }
+    if kind == TDCX {
+        return below(s.frames as u64, 1, 1);
+    }
+    if kind == EPT {
+        return below(s.frames as u64, s.tables as u64, EPOCH_MOST + 1);
+    }
+    if kind == REG {
+        return below(s.frames as u64, 1, EPOCH_MOST + 1);
+    }
+    below(0, 0, 0)
+}
+
+fn frame_ok(s: Sizes, frames: &[u64], frame: Pfn) -> bool
+    ensures { λ r. ⌜ r ≡ frameOk s (now (frames .entry)) (frame .0) ⌝ }
+{
+    let f = tables::frame_at(frames, frame);
+    let l = frame_limits(s, f.kind);
+    let owner = f.owner;
+    if (owner.0 as u64) >= l.owner {
+        return false;
+    }
+    if f.number >= l.number {
+        return false;
+    }
+    f.epoch < l.epoch
+}
+
+fn all_frames_ok(s: Sizes, frames: &[u64]) -> bool
+    ensures { λ r. ⌜ r ≡ framesOk s (now (frames .entry)) ⌝ }
+{
+    let mut n = 0;
+    while n < frames.len() {
+        if !frame_ok(s, frames, Pfn(n)) {
+            return false;
+        }
+        n += 1;
+    }
+    true
+}
+
+fn entry_ok(frames: usize, entries: &[u32], block: usize, index: usize) -> bool
+    ensures { λ r. ⌜ r ≡ entryOk frames (now (entries .entry)) block index ⌝ }
+{
+    let e = tables::entry_at(entries, block, index);
+    let frame = e.frame;
+    if e.state > PENDING_BLOCKED {
+        return false;
+    }
+    if e.state == FREE {
+        return frame.0 == 0;
+    }
+    frame.0 < frames
+}
+
+fn entries_ok(frames: usize, entries: &[u32], block: usize) -> bool
+    ensures { λ r. ⌜ r ≡ entriesOk frames (now (entries .entry)) block ⌝ }
+{
+    let mut index = 0;
+    while index < TABLE_ENTRIES {
+        if !entry_ok(frames, entries, block, index) {
+            return false;
+        }
+        index += 1;
+    }
+    true
+}
+
+// A control page that isn't listed yet holds 0.
+fn page_ok(frames: usize, listed: usize, domains: &[u64], rec: usize, page: usize) -> bool
+    ensures { λ r. ⌜ r ≡ pageOk frames listed (now (domains .entry)) rec page ⌝ }
+{
+    let frame = tables::page_at(domains, rec, page);
+    if page < listed {
+        return frame.0 < frames;
+    }
+    frame.0 == 0
+}
+
+fn pages_ok(frames: usize, listed: usize, domains: &[u64], rec: usize) -> bool
+    ensures { λ r. ⌜ r ≡ pagesOk frames listed (now (domains .entry)) rec ⌝ }
+{
+    let mut page = 0;
+    while page < CONTROL_PAGES {
+        if !page_ok(frames, listed, domains, rec, page) {
+            return false;
+        }
+        page += 1;
+    }
+    true
+}
+
+fn domain_ok(frames: usize, d: Domain) -> bool
+    ensures { λ r. ⌜ r ≡ domainOk frames d ⌝ }
+{
+    if !limits::key_ok(d.key) {
+        return false;
+    }
+    if d.life > TEARDOWN {
+        return false;
+    }
+    if d.op > RUNNABLE {
+        return false;
+    }
+    if d.listed > (CONTROL_PAGES as u64) {
+        return false;
+    }
+    if d.children > (frames as u64) {
+        return false;
+    }
+    limits::epoch_ok(d.epoch)
+}
+
+fn record_ok(frames: usize, domains: &[u64], rec: usize) -> bool
+    ensures { λ r. ⌜ r ≡ recordOk frames (now (domains .entry)) rec ⌝ }
+{
+    let d = tables::domain_at(domains, rec);
+    if !domain_ok(frames, d) {
+        return false;
+    }
+    pages_ok(frames, d.listed as usize, domains, rec)
+}
+
+// An unused block isn't looked into. One in use is a table, or a record's root, and then its record is looked at too.
+fn block_ok(s: Sizes, domains: &[u64], stock: &[u64], entries: &[u32], block: usize) -> bool
+    ensures { λ r. ⌜ r ≡ blockOk s (now (domains .entry)) (now (stock .entry)) (now (entries .entry)) block ⌝ }
+{
+    if !bits::in_use(stock, block) {
+        return true;
+    }
+    if !entries_ok(s.frames, entries, block) {
+        return false;
+    }
+    let tables = s.tables;
+    if block < tables {
+        return true;
+    }
+    record_ok(s.frames, domains, block - tables)
+}
+
+fn all_blocks_ok(s: Sizes, domains: &[u64], stock: &[u64], entries: &[u32]) -> bool
+    ensures { λ r. ⌜ r ≡ blocksOk s (now (domains .entry)) (now (stock .entry)) (now (entries .entry)) ⌝ }
+{
+    let mut block = 0;
+    while block < entries.len() / TABLE_ENTRIES {
+        if !block_ok(s, domains, stock, entries, block) {
+            return false;
+        }
+        block += 1;
+    }
+    true
+}
+
+// Whether answer 13 has nothing to say of the lent tables.
+pub fn lent_ok(base: Hpa, frames: &[u64], domains: &[u64], stock: &[u64], entries: &[u32]) -> bool
+    ensures { λ r. ⌜ r ≡ lentOk base (lent (now (frames .entry)) (now (domains .entry)) (now (stock .entry)) (now (entries .entry))) ⌝ }
+{
+    if !sizes::sizes_ok(
+        base,
+        frames.len(),
+        domains.len(),
+        stock.len(),
+        entries.len(),
+    ) {
+        return false;
+    }
+    let s = sizes::sizes_of(frames.len(), domains.len(), entries.len());
+    if !bits::spare_clear(stock, entries.len() / TABLE_ENTRIES) {
+        return false;
+    }
+    if !all_frames_ok(s, frames) {
+        return false;
+    }
+    all_blocks_ok(s, domains, stock, entries)
+}
