@@ -44,6 +44,14 @@ pub enum Call {
     ReadEntry(Hpa, Gpa, usize),
 }
 
+// What a host asks: one of its calls, the setting of the gauge's marks (raise, clear), a fresh start, or nothing that has a name.
+pub enum Ask {
+    Host(Call),
+    Marks(f64, f64),
+    Reset,
+    Unreadable,
+}
+
 // The paper's answers: accepted, with a page's type and owner or an entry's level, state and hpa where the call reads them; or a
 // number of "When the module says no", with the operand at fault (from 0), or with the level and state of 6 and 7.
 pub enum Answer {

@@ -25,8 +25,9 @@ use Rattle.plan.specs.Lookup.{onPlace, onOperand, onLookup, frameOperand, spotO
 use Rattle.plan.specs.Changes.{gain, lose}
 use Rattle.domains.specs.Domains.{keyconfigPlan, initPlan, trackPlan, enlistAt, addcxPlan, otherKey, keyUnused, newRecord, createAt, createPlan}
 use Rattle.plan.specs.Entries.{entryFor, onReach, blockedState, isTracked}
-use Rattle.trees.specs.Trees as trees
-use Rattle.trees.specs.Trees.{septAt, septaddPlan, pagePlan, blockAt, blockPlan, pageremoveAt, pageremovePlan}
+use Rattle.adds.specs.Adds as adds
+use Rattle.adds.specs.Adds.{septAt, septaddPlan, pagePlan}
+use Rattle.trees.specs.Trees.{blockAt, blockPlan, pageremoveAt, pageremovePlan}
 use Rattle.pages.specs.Pages.{readpagePlan}
 use Rattle.carry.specs.Carry.{afterFrame, afterPage, afterDomain, afterEntry, afterUse, afterRecord, afterBlock, applied, carried}
 use Rattle.host.specs.Calls.{Outcome, planOf, settled, ruleOf, callOf, resetOf}
@@ -67,5 +68,5 @@ checked c n e = λ g r k. ap valuesOf (past-13 (run fresh (c .before)) g (c .the
 
 -- Every marked case of the paper answers as it says.
 pub marked-right : AllRight marked
-unfolding AllRight marked iff given between frameOf hpaOf rowOf gpaFits indexAt wordOf bitSet inUse withBit setUse lowestFrom lowestUnused onLowest wipedAt frameAt setFrame recordWord setRecordWord domainAt setDomain pageAt setPage entryAt setEntry tablesOf rootOf sizesOf entryType ownFrame walkFrom onWalk valuesOf onPlace onOperand onLookup frameOperand spotOperands domainFor builtFor gain lose keyconfigPlan initPlan trackPlan enlistAt addcxPlan otherKey keyUnused newRecord createAt createPlan entryFor onReach blockedState isTracked septAt trees.pageAt septaddPlan pagePlan blockAt blockPlan pageremoveAt pageremovePlan readpagePlan afterFrame afterPage afterDomain afterEntry afterUse afterRecord afterBlock applied carried planOf run allFrom
+unfolding AllRight marked iff given between frameOf hpaOf rowOf gpaFits indexAt wordOf bitSet inUse withBit setUse lowestFrom lowestUnused onLowest wipedAt frameAt setFrame recordWord setRecordWord domainAt setDomain pageAt setPage entryAt setEntry tablesOf rootOf sizesOf entryType ownFrame walkFrom onWalk valuesOf onPlace onOperand onLookup frameOperand spotOperands domainFor builtFor gain lose keyconfigPlan initPlan trackPlan enlistAt addcxPlan otherKey keyUnused newRecord createAt createPlan entryFor onReach blockedState isTracked septAt adds.pageAt septaddPlan pagePlan blockAt blockPlan pageremoveAt pageremovePlan readpagePlan afterFrame afterPage afterDomain afterEntry afterUse afterRecord afterBlock applied carried planOf run allFrom
 marked-right = (checked line1 refl refl, (checked line2 refl refl, (checked line3 refl refl, (checked line4 refl refl, (checked line6 refl refl, (checked line7 refl refl, (checked line8 refl refl, (checked line9 refl refl, (checked gpaFits1 refl refl, (checked gpaUnaligned refl refl, (checked gpaTooBig refl refl, (checked notTracked refl refl, (checked trackedNow refl refl, tt)))))))))))))

@@ -16,9 +16,9 @@ use Rattle.units.proofs.address.Hpa.Laws as B′
 use Rattle.calls.specs.declared.Answer.{Answer}
 use Rattle.calls.proofs.Answer as N
 use Rattle.calls.proofs.Answer.Laws as N′
-use Rattle.entry.specs.declared.Ask.{Ask}
-use Rattle.entry.proofs.Ask as K
-use Rattle.entry.proofs.Ask.Laws as K′
+use Rattle.calls.specs.declared.Ask.{Ask}
+use Rattle.calls.proofs.Ask as K
+use Rattle.calls.proofs.Ask.Laws as K′
 
 -- a lent slice
 abbrev pub Slice : Type 0

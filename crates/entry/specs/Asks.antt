@@ -4,8 +4,8 @@ use Rattle.gauge.specs.declared.Gauge.{Gauge}
 use Rattle.ledger.specs.Tables.{Tables}
 use Rattle.calls.specs.declared.Answer.the-variants.{No}
 use Rattle.host.specs.Calls.{Outcome, outcome, callOf, marksOf, resetOf}
-use Rattle.entry.specs.declared.Ask.{Ask}
-use Rattle.entry.specs.declared.Ask.the-variants as ask
+use Rattle.calls.specs.declared.Ask.{Ask}
+use Rattle.calls.specs.declared.Ask.the-variants as ask
 
 -- an ask that names nothing is as unreadable as an unknown name in a script: 15, and nothing changes
 unfoldable pub askOf : Hpa → Tables → Gauge → Ask → Outcome

@@ -4,20 +4,12 @@ ghost use Rattle.ledger.specs.Tables.{lent};
 ghost use Rattle.host.specs.Calls.{outcome};
 ghost use Rattle.entry.specs.Asks.{askOf};
 use calls::Answer;
-use calls::Call;
+use calls::Ask;
 use gauge::Gauge;
 use host::call;
 use host::call::Reply;
 use host::setting;
 use units::address::Hpa;
-
-// What a host asks: one of its calls, the setting of the gauge's marks (raise, clear), a fresh start, or nothing that has a name.
-pub enum Ask {
-    Host(Call),
-    Marks(f64, f64),
-    Reset,
-    Unreadable,
-}
 
 // Any ask, with the gauge by value.
 pub fn answer_ask(

@@ -19,6 +19,7 @@ use Rattle.calls.specs.declared.Answer.the-variants.{Done, No}
 use Rattle.calls.specs.declared.Call.{Call}
 use Rattle.calls.specs.declared.Call.the-variants as call
 use Rattle.domains.specs.Domains as domains
+use Rattle.adds.specs.Adds as adds
 use Rattle.trees.specs.Trees as trees
 use Rattle.pages.specs.Pages as pages
 use Rattle.plan.specs.declared.edit.Plan.{Plan}
@@ -30,10 +31,10 @@ planOf base t (call.Create f key) = domains.createPlan base t f key
 planOf base t (call.KeyConfig d) = domains.keyconfigPlan base t d
 planOf base t (call.AddCx d f) = domains.addcxPlan base t d f
 planOf base t (call.Init d) = domains.initPlan base t d
-planOf base t (call.SeptAdd d gpa level f) = trees.septaddPlan base t d gpa level f
-planOf base t (call.PageAdd d gpa f) = trees.pageaddPlan base t d gpa f
+planOf base t (call.SeptAdd d gpa level f) = adds.septaddPlan base t d gpa level f
+planOf base t (call.PageAdd d gpa f) = adds.pageaddPlan base t d gpa f
 planOf base t (call.Finalize d) = domains.finalizePlan base t d
-planOf base t (call.PageAug d gpa f) = trees.pageaugPlan base t d gpa f
+planOf base t (call.PageAug d gpa f) = adds.pageaugPlan base t d gpa f
 planOf base t (call.Block d gpa level) = trees.blockPlan base t d gpa level
 planOf base t (call.Track d) = domains.trackPlan base t d
 planOf base t (call.Unblock d gpa level) = trees.unblockPlan base t d gpa level

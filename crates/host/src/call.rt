@@ -34,7 +34,7 @@ fn plan_of(
         Call::KeyConfig(d) => domains::plan_keyconfig(base, frames, domains, stock, entries, d),
         Call::AddCx(d, f) => domains::plan_addcx(base, frames, domains, stock, entries, d, f),
         Call::Init(d) => domains::plan_init(base, frames, domains, stock, entries, d),
-        Call::SeptAdd(d, gpa, level, f) => trees::plan_septadd(
+        Call::SeptAdd(d, gpa, level, f) => adds::plan_septadd(
             base,
             frames,
             domains,
@@ -45,7 +45,7 @@ fn plan_of(
             level,
             f,
         ),
-        Call::PageAdd(d, gpa, f) => trees::plan_page(
+        Call::PageAdd(d, gpa, f) => adds::plan_page(
             base,
             frames,
             domains,
@@ -58,7 +58,7 @@ fn plan_of(
             MAPPED,
         ),
         Call::Finalize(d) => domains::plan_finalize(base, frames, domains, stock, entries, d),
-        Call::PageAug(d, gpa, f) => trees::plan_page(
+        Call::PageAug(d, gpa, f) => adds::plan_page(
             base,
             frames,
             domains,

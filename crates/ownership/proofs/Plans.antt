@@ -33,7 +33,8 @@ use Rattle.plan.specs.Edits.{edit, entry, freeEntry, withLife, withOp, withEpoc
 use Rattle.plan.specs.Lookup.{onLookup, domainFor, builtFor, onPlace}
 use Rattle.plan.specs.Entries.{blockedState, unblockedState, tableEmpty, freeAt}
 use Rattle.domains.specs.Domains as plans
-use Rattle.plan.specs.Changes.{refuse, gain, lose, onFrame}
+use Rattle.plan.specs.Changes.{refuse, gain, lose, onFrame, onSpot}
+use Rattle.adds.specs.Adds as adds
 use Rattle.trees.specs.Trees as trees
 use Rattle.pages.specs.Pages as pages
 use Rattle.plan.specs.declared.lookup.Found.{Found as Looked}
@@ -124,7 +125,7 @@ module _ (base : Hpa) (t : Tables) (l : Lists) (st : State base t l) where
   on-frame : (c : Call) (h : Hpa) (k : ℕ) (next : Pfn → Plan) → ((n : Pfn) → placeIn base t h ≡ place.At n → n .0 < length (t .frames) → Good base t l c (next n)) → Good base t l c (onFrame base t h k next)
   on-frame c h k next f = on-operand base t h (Good base t l c) (frame-operand base t h k) (refuse 1) next (λ j. answers (mild-no 1 j (omega arith) (omega arith))) f
 
-  on-spot : (c : Call) (h : Hpa) (gpa : Gpa) (level least : ℕ) (next : Pfn → Plan) → ((n : Pfn) → placeIn base t h ≡ place.At n → n .0 < length (t .frames) → Good base t l c (next n)) → Good base t l c (trees.onSpot base t h gpa level least next)
+  on-spot : (c : Call) (h : Hpa) (gpa : Gpa) (level least : ℕ) (next : Pfn → Plan) → ((n : Pfn) → placeIn base t h ≡ place.At n → n .0 < length (t .frames) → Good base t l c (next n)) → Good base t l c (onSpot base t h gpa level least next)
   on-spot c h gpa level least next f = on-operand base t h (Good base t l c) (spot-operands base t h gpa level least) (refuse 1) next (λ j. answers (mild-no 1 j (omega arith) (omega arith))) f
 
   on-domain : (l′ : Lists) (n : Pfn) (next : Looked → Plan) → (kind (view t) (n .0) ≡ TDR → Turn base t l l′ (n .0) (next (looked t (n .0)))) → Turn base t l l′ (n .0) (onLookup (domainFor t n) Say next)
@@ -225,8 +226,8 @@ module _ (base : Hpa) (t : Tables) (l : Lists) (st : State base t l) where
   D-in : (d : ℕ) → Keyed (view t) d → d < length (t .frames)
   D-in d k = in-window t d (λ q. omega (arith, k .tdr))
 
-  pub septadd-good : (d : Hpa) (gpa : Gpa) (level : ℕ) (f : Hpa) → Good base t l (call.SeptAdd d gpa level f) (trees.septaddPlan base t d gpa level f)
-  unfolding trees.septaddPlan trees.septAt gain subject left roleOf given iff
+  pub septadd-good : (d : Hpa) (gpa : Gpa) (level : ℕ) (f : Hpa) → Good base t l (call.SeptAdd d gpa level f) (adds.septaddPlan base t d gpa level f)
+  unfolding adds.septaddPlan adds.septAt gain subject left roleOf given iff
   septadd-good d gpa level f = on-spot (call.SeptAdd d gpa level f) d gpa level 1 _ (λ n q h. on-frame (call.SeptAdd d gpa level f) f 3 _ (λ m q′ h′.
       good n q refl (on-built n INITIALIZED RUNNABLE _ (λ k.
       iff-both (Turn base t l l (n .0)) _ _ _
@@ -244,8 +245,8 @@ module _ (base : Hpa) (t : Tables) (l : Lists) (st : State base t l) where
       (λ _. refused 2 3 (omega arith) (omega arith))))))
 
   page-good : (c : Call) (d : Hpa) (gpa : Gpa) (f : Hpa) (op state : ℕ) → shapeOf state ≡ page → state ≤ PENDING-BLOCKED
-      → subject base t (roleOf c) ≡ placeIn base t d → left base t (roleOf c) l ≡ l → Good base t l c (trees.pagePlan base t d gpa f op state)
-  unfolding trees.pagePlan trees.pageAt gain given iff
+      → subject base t (roleOf c) ≡ placeIn base t d → left base t (roleOf c) l ≡ l → Good base t l c (adds.pagePlan base t d gpa f op state)
+  unfolding adds.pagePlan adds.pageAt gain given iff
   page-good c d gpa f op state sh most su le = on-spot c d gpa 0 0 _ (λ n q h. on-frame c f 2 _ (λ m q′ h′.
       good n (su ∙ q) le (on-built n op op _ (λ k.
       iff-both (Turn base t l l (n .0)) _ _ _
@@ -268,11 +269,11 @@ module _ (base : Hpa) (t : Tables) (l : Lists) (st : State base t l) where
   unfolding shapeOf iff
   pending-shape = refl
 
-  pub pageadd-good : (d : Hpa) (gpa : Gpa) (f : Hpa) → Good base t l (call.PageAdd d gpa f) (trees.pageaddPlan base t d gpa f)
+  pub pageadd-good : (d : Hpa) (gpa : Gpa) (f : Hpa) → Good base t l (call.PageAdd d gpa f) (adds.pageaddPlan base t d gpa f)
   unfolding subject left roleOf
   pageadd-good d gpa f = page-good (call.PageAdd d gpa f) d gpa f INITIALIZED MAPPED mapped-shape (omega arith) refl refl
 
-  pub pageaug-good : (d : Hpa) (gpa : Gpa) (f : Hpa) → Good base t l (call.PageAug d gpa f) (trees.pageaugPlan base t d gpa f)
+  pub pageaug-good : (d : Hpa) (gpa : Gpa) (f : Hpa) → Good base t l (call.PageAug d gpa f) (adds.pageaugPlan base t d gpa f)
   unfolding subject left roleOf
   pageaug-good d gpa f = page-good (call.PageAug d gpa f) d gpa f RUNNABLE PENDING pending-shape (omega arith) refl refl
 

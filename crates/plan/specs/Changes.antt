@@ -4,13 +4,14 @@ use lib.ListN.{length}
 use lib.Dec.{eqb, ltb}
 use Rattle.rules.specs.Rule.{iff, need, given}
 use Rattle.units.specs.declared.address.Hpa.{Hpa}
+use Rattle.units.specs.declared.address.Gpa.{Gpa}
 use Rattle.units.specs.declared.address.Pfn.{Pfn}
 use Rattle.ledger.specs.Tables.{Tables}
 use Rattle.ledger.specs.declared.words.Frame.{Frame}
 use Rattle.ledger.specs.declared.words.Domain.{Domain}
 use Rattle.calls.specs.declared.Answer.the-variants.{No}
 use Rattle.plan.specs.Edits.{edit, freed, withCounts}
-use Rattle.plan.specs.Lookup.{onOperand, frameOperand}
+use Rattle.plan.specs.Lookup.{onOperand, frameOperand, spotOperands}
 use Rattle.plan.specs.declared.lookup.Found.{Found}
 use Rattle.plan.specs.declared.edit.FrameEdit.the-variants as frame
 use Rattle.plan.specs.declared.edit.PageEdit.{PageEdit}
@@ -48,3 +49,7 @@ lose x n s e =
 -- an hpa, which is operand k of the call
 abbrev pub onFrame : Hpa → Tables → Hpa → ℕ → (Pfn → Plan) → Plan
 onFrame base t hpa k next = onOperand (frameOperand base (length (t .frames)) hpa k) (refuse 1) next
+
+-- D, a gpa and a level from `least` on
+abbrev pub onSpot : Hpa → Tables → Hpa → Gpa → ℕ → ℕ → (Pfn → Plan) → Plan
+onSpot base t d gpa level least next = onOperand (spotOperands base (length (t .frames)) d gpa level least) (refuse 1) next

@@ -6,8 +6,8 @@ use Rattle.calls.specs.Answers.{valuesOf}
 use Rattle.calls.specs.declared.Values.{Values}
 use Rattle.host.specs.Calls.{Outcome}
 use Rattle.entry.specs.Asks.{askOf}
-use Rattle.reefnettle.specs.Requests.{askFor}
-use Rattle.reefnettle.specs.declared.request.Request.{Request}
+use Rattle.requests.specs.Requests.{askFor}
+use Rattle.requests.specs.declared.Request.{Request}
 
 pub record ReadOut : Type 0 where
   pub values : Values

@@ -4,10 +4,8 @@ ghost use Rattle.ledger.specs.Tables.{lent};
 ghost use Rattle.reefnettle.specs.Door.{readOut, doorOf};
 use calls::Values;
 use gauge::Gauge;
-use request::Request;
+use requests::Request;
 use units::address::Hpa;
-
-pub mod request;
 
 // Any request on any lent tables and gauge.
 #[no_mangle]
@@ -22,7 +20,7 @@ pub extern "C" fn reefnettle_ask(
 ) -> Values
     ensures { λ v. ⌜ readOut v (lent (now (frames .exit)) (now (domains .exit)) (now (stock .exit)) (now (entries .exit))) (now (g .exit)) ≡ doorOf base (lent (now (frames .entry)) (now (domains .entry)) (now (stock .entry)) (now (entries .entry))) (now (g .entry)) r ⌝ }
 {
-    let ask = request::ask_of(r);
+    let ask = requests::ask_of(r);
     let answer = entry::enter(base, frames, domains, stock, entries, g, ask);
     calls::values_of(answer)
 }

@@ -1,10 +1,10 @@
 // Replays a script: calls on standard input, a line each; their answers on standard output. Only reading, writing and the loops over them
-// stand here: what a byte does and what a line answers is proved in the crate session.
-use entry::Ask;
+// stand here: what a byte does and what a line answers is proved in the crates feed and session.
+use calls::Ask;
+use feed::Feed;
+use feed::Turn;
 use gauge::Gauge;
 use ledger::count;
-use session::Feed;
-use session::Turn;
 use units::address::Hpa;
 
 const STDIN: i32 = 0;
@@ -90,7 +90,7 @@ fn begin(out: &mut [u8], gauge: Gauge) -> State {
     State {
         gauge,
         feed: Feed { lines: 0, held: 0 },
-        pending: session::within(n, out),
+        pending: feed::within(n, out),
         stopped: false,
     }
 }
@@ -99,13 +99,13 @@ fn finish(frames: &[u64], out: &mut [u8], s: State) {
     let done = flush(out, s);
     let g = done.gauge;
     let last = answers::write_last(out, count::used_frames(frames), g.lamp);
-    let n = session::within(last, out);
+    let n = feed::within(last, out);
     io::write_all(STDOUT, &out[..n]);
 }
 
 // The pending output is written.
 fn flush(out: &[u8], s: State) -> State {
-    let n = session::within(s.pending, out);
+    let n = feed::within(s.pending, out);
     io::write_all(STDOUT, &out[..n]);
     let gauge = s.gauge;
     let feed = s.feed;
@@ -119,7 +119,7 @@ fn flush(out: &[u8], s: State) -> State {
 
 // Room for one answer more.
 fn with_room(out: &[u8], s: State) -> State {
-    let n = session::within(s.pending, out);
+    let n = feed::within(s.pending, out);
     if out.len() - n < ANSWER_BYTES {
         return flush(out, s);
     }
@@ -140,8 +140,8 @@ fn run_line(
     let s = with_room(out, old);
     let gauge = s.gauge;
     let feed = s.feed;
-    let held = session::within(feed.held, line);
-    let at = session::within(s.pending, out);
+    let held = feed::within(feed.held, line);
+    let at = feed::within(s.pending, out);
     let most = out.len();
     let r = session::reply(
         Hpa(BASE_BYTES),
@@ -158,7 +158,7 @@ fn run_line(
     State {
         gauge: now,
         feed,
-        pending: session::advanced(at, r.wrote, most),
+        pending: feed::advanced(at, r.wrote, most),
         stopped: s.stopped,
     }
 }
@@ -168,13 +168,13 @@ fn stop_at(out: &mut [u8], old: State) -> State {
     let s = with_room(out, old);
     let gauge = s.gauge;
     let feed = s.feed;
-    let at = session::within(s.pending, out);
+    let at = feed::within(s.pending, out);
     let most = out.len();
-    let n = answers::write_unreadable(&mut out[at..], session::LINES_MOST + 1);
+    let n = answers::write_unreadable(&mut out[at..], feed::LINES_MOST + 1);
     State {
         gauge,
         feed,
-        pending: session::advanced(at, n, most),
+        pending: feed::advanced(at, n, most),
         stopped: true,
     }
 }
@@ -200,9 +200,9 @@ fn take_byte(
     s: State,
 ) -> State {
     let feed = s.feed;
-    match session::turn_of(feed, byte) {
+    match feed::turn_of(feed, byte) {
         Turn::Hold(next) => {
-            session::hold(line, feed.held, byte);
+            feed::hold(line, feed.held, byte);
             with_feed(s, next)
         }
         Turn::Ends(next) => {
@@ -298,7 +298,7 @@ fn end_line(
     if feed.held == 0 {
         return s;
     }
-    if feed.lines >= session::LINES_MOST {
+    if feed.lines >= feed::LINES_MOST {
         return s;
     }
     run_line(

@@ -1,6 +1,7 @@
 // Words that no call leaves behind, written by hand: answers 12, 13 and 14.
 use crate::ask;
 use crate::step;
+use crate::step::Place;
 use crate::step::Step;
 use calls::Call;
 use units::address::Gpa;
@@ -15,7 +16,7 @@ const ALL_CHILDREN: u64 = 1090536608;
 // The epoch one below its limit, and at it.
 pub(crate) fn limits(n: u64) -> Step {
     match n {
-        8 => Step::Record(NEXT_TO_LAST),
+        8 => Step::Word(Place::Record, NEXT_TO_LAST),
         9 => ask::track(1, 0),
         10 => ask::track(2, 0),
         _ => step::built(n),
@@ -25,18 +26,18 @@ pub(crate) fn limits(n: u64) -> Step {
 // A type 5, a spare bit, a record of zeros in use; a word of an unused record is not looked at.
 pub(crate) fn ranges(n: u64) -> Step {
     match n {
-        0 => Step::Reset,
-        1 => Step::Frame(511, 5),
+        0 => ask::reset(),
+        1 => Step::Word(Place::Frame(511), 5),
         2 => ask::readpage(1, 0),
-        3 => Step::Ask(2, Call::ReadPage(Hpa(1))),
-        4 => Step::Frame(511, 0),
+        3 => ask::host(2, Call::ReadPage(Hpa(1))),
+        4 => Step::Word(Place::Frame(511), 0),
         5 => ask::readpage(3, 0),
-        6 => Step::Stock(64),
+        6 => Step::Word(Place::Stock, 64),
         7 => ask::readpage(4, 0),
-        8 => Step::Stock(16),
+        8 => Step::Word(Place::Stock, 16),
         9 => ask::readpage(5, 0),
-        10 => Step::Stock(0),
-        11 => Step::Record(127),
+        10 => Step::Word(Place::Stock, 0),
+        11 => Step::Word(Place::Record, 127),
         12 => ask::create(6, 0, 32),
         _ => Step::End,
     }
@@ -46,15 +47,15 @@ pub(crate) fn ranges(n: u64) -> Step {
 pub(crate) fn owners(n: u64) -> Step {
     match n {
         8 => ask::septadd(1, Gpa(0), 3, 5),
-        9 => Step::Frame(5, 11),
+        9 => Step::Word(Place::Frame(5), 11),
         10 => ask::septadd(2, Gpa(0), 2, 6),
         11 => ask::block(3, Gpa(0), 3),
         12 => ask::reclaim(4, 5),
-        13 => Step::Frame(5, 3),
+        13 => Step::Word(Place::Frame(5), 3),
         14 => ask::septadd(5, Gpa(0), 2, 6),
-        15 => Step::Record(ALL_CHILDREN),
+        15 => Step::Word(Place::Record, ALL_CHILDREN),
         16 => ask::septadd(6, Gpa(0), 1, 7),
-        17 => Step::Stock(3),
+        17 => Step::Word(Place::Stock, 3),
         18 => ask::keyconfig(7, 0),
         19 => ask::reclaim(8, 0),
         _ => step::built(n),

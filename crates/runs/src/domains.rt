@@ -10,7 +10,7 @@ use units::address::Hpa;
 // A domain, and what its frames are.
 pub(crate) fn build(n: u64) -> Step {
     match n {
-        0 => Step::Reset,
+        0 => ask::reset(),
         1 => ask::create(1, 0, 32),
         2 => ask::keyconfig(2, 0),
         3 => ask::addcx(3, 0, 1),
@@ -28,16 +28,16 @@ pub(crate) fn build(n: u64) -> Step {
 // Operands out of range; then the last frame and the last key.
 pub(crate) fn operands(n: u64) -> Step {
     match n {
-        0 => Step::Reset,
-        1 => Step::Ask(1, Call::Create(Hpa(1073741825), 32)),
-        2 => Step::Ask(2, Call::Create(Hpa(262144), 32)),
+        0 => ask::reset(),
+        1 => ask::host(1, Call::Create(Hpa(1073741825), 32)),
+        2 => ask::host(2, Call::Create(Hpa(262144), 32)),
         3 => ask::create(3, 512, 32),
         4 => ask::create(4, 0, 31),
         5 => ask::create(5, 0, 48),
         6 => ask::create(6, 511, 47),
-        7 => Step::Ask(7, Call::Block(at(511), Gpa(2093056), 1)),
-        8 => Step::Ask(8, Call::Block(at(511), Gpa(0), 4)),
-        9 => Step::Ask(9, Call::SeptAdd(at(511), Gpa(0), 0, at(1))),
+        7 => ask::host(7, Call::Block(at(511), Gpa(2093056), 1)),
+        8 => ask::host(8, Call::Block(at(511), Gpa(0), 4)),
+        9 => ask::host(9, Call::SeptAdd(at(511), Gpa(0), 0, at(1))),
         _ => Step::End,
     }
 }
@@ -45,7 +45,7 @@ pub(crate) fn operands(n: u64) -> Step {
 // Frames of the wrong type.
 pub(crate) fn kinds(n: u64) -> Step {
     match n {
-        0 => Step::Reset,
+        0 => ask::reset(),
         1 => ask::create(1, 0, 32),
         2 => ask::create(2, 0, 33),
         3 => ask::keyconfig(3, 1),
@@ -59,7 +59,7 @@ pub(crate) fn kinds(n: u64) -> Step {
 // Lifecycles, and too few control pages.
 pub(crate) fn life(n: u64) -> Step {
     match n {
-        0 => Step::Reset,
+        0 => ask::reset(),
         1 => ask::create(1, 0, 32),
         2 => ask::addcx(2, 0, 1),
         3 => ask::init(3, 0),

@@ -6,8 +6,8 @@ use crate::step::Step;
 // Raise mark 2 of 512 frames, clear mark 1 of 512.
 pub(crate) fn lamp(n: u64) -> Step {
     match n {
-        0 => Step::Reset,
-        1 => Step::Marks(1, 0.00390625, 0.001953125),
+        0 => ask::reset(),
+        1 => ask::marks(1, 0.00390625, 0.001953125),
         2 => ask::create(2, 0, 32),
         3 => ask::create(3, 1, 33),
         4 => ask::flushdone(4, 1),
@@ -23,12 +23,12 @@ pub(crate) fn lamp(n: u64) -> Step {
 // Marks out of rule when set are 1, and when lent 13; the setting does not look at the lent ones.
 pub(crate) fn marks(n: u64) -> Step {
     match n {
-        0 => Step::Reset,
+        0 => ask::reset(),
         1 => ask::create(1, 0, 32),
-        2 => Step::Marks(2, 0.001, 0.0),
+        2 => ask::marks(2, 0.001, 0.0),
         3 => Step::Odd,
         4 => ask::keyconfig(3, 0),
-        5 => Step::Marks(4, 0.00390625, 0.0),
+        5 => ask::marks(4, 0.00390625, 0.0),
         6 => ask::keyconfig(5, 0),
         _ => Step::End,
     }

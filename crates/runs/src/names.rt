@@ -21,6 +21,12 @@ pub(crate) fn say_name(seq: u64) {
         6 => say::text(b"tracks"),
         7 => say::text(b"remains"),
         8 => say::text(b"augments"),
+        _ => say_later_name(seq),
+    }
+}
+
+fn say_later_name(seq: u64) {
+    match seq {
         9 => say::text(b"teardown"),
         10 => say::text(b"keys"),
         11 => say::text(b"tables"),

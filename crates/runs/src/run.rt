@@ -2,12 +2,11 @@
 use crate::names;
 use crate::step;
 use crate::step::BASE_BYTES;
+use crate::step::Place;
 use crate::step::Step;
-use calls::Call;
+use calls::Ask;
 use gauge::Gauge;
-use host::call;
 use host::call::Reply;
-use host::setting;
 use units::address::Hpa;
 
 fn told(frames: &[u64], seq: u64, number: u64, r: Reply) -> Gauge {
@@ -19,6 +18,7 @@ fn told(frames: &[u64], seq: u64, number: u64, r: Reply) -> Gauge {
 }
 
 fn tell(
+    base: Hpa,
     frames: &mut [u64],
     domains: &mut [u64],
     stock: &mut [u64],
@@ -26,9 +26,9 @@ fn tell(
     g: Gauge,
     seq: u64,
     number: u64,
-    c: Call,
+    ask: Ask,
 ) -> Gauge {
-    let r = call::answer_call(Hpa(BASE_BYTES), frames, domains, stock, entries, g, c);
+    let r = entry::entered(base, frames, domains, stock, entries, g, ask);
     told(frames, seq, number, r)
 }
 
@@ -38,55 +38,34 @@ fn quiet(
     stock: &mut [u64],
     entries: &mut [u32],
     g: Gauge,
-    c: Call,
+    ask: Ask,
 ) -> Gauge {
-    let r = call::answer_call(Hpa(BASE_BYTES), frames, domains, stock, entries, g, c);
+    let r = entry::entered(Hpa(BASE_BYTES), frames, domains, stock, entries, g, ask);
     r.gauge
 }
 
-fn reset(
-    frames: &mut [u64],
-    domains: &mut [u64],
-    stock: &mut [u64],
-    entries: &mut [u32],
-    base: u64,
-    g: Gauge,
-    seq: u64,
-    number: u64,
-) -> Gauge {
-    let r = setting::reset(Hpa(base), frames, domains, stock, entries, g);
-    told(frames, seq, number, r)
-}
-
-fn set(
-    frames: &mut [u64],
-    domains: &mut [u64],
-    stock: &mut [u64],
-    entries: &mut [u32],
-    g: Gauge,
-    seq: u64,
-    number: u64,
-    raise: f64,
-    clear: f64,
-) -> Gauge {
-    let r = setting::set_marks(
-        Hpa(BASE_BYTES),
-        frames,
-        domains,
-        stock,
-        entries,
-        g,
-        raise,
-        clear,
-    );
-    told(frames, seq, number, r)
-}
-
-fn put_word(words: &mut [u64], at: usize, word: u64, g: Gauge) -> Gauge {
+fn put_word(words: &mut [u64], at: usize, word: u64) {
     if at < words.len() {
         words[at] = word;
     }
-    g
+}
+
+fn put(frames: &mut [u64], domains: &mut [u64], stock: &mut [u64], place: Place, word: u64) {
+    match place {
+        Place::Frame(at) => put_word(frames, at, word),
+        Place::Record => put_word(domains, 0, word),
+        Place::Stock => put_word(stock, 0, word),
+    }
+}
+
+// Marks that no setting gives.
+fn odd(g: Gauge) -> Gauge {
+    Gauge {
+        raise: 0.0,
+        clear: 0.0,
+        fill: g.fill,
+        lamp: true,
+    }
 }
 
 fn run_step(
@@ -100,13 +79,8 @@ fn run_step(
 ) -> Gauge {
     match names::step_of(seq, n) {
         Step::End => g,
-        Step::Reset => reset(frames, domains, stock, entries, BASE_BYTES, g, seq, 0),
-        Step::Quiet(c) => quiet(frames, domains, stock, entries, g, c),
-        Step::Ask(k, c) => tell(frames, domains, stock, entries, g, seq, k, c),
-        Step::Frame(at, word) => put_word(frames, at, word, g),
-        Step::Record(word) => put_word(domains, 0, word, g),
-        Step::Stock(word) => put_word(stock, 0, word, g),
-        Step::Marks(k, raise, clear) => set(
+        Step::Told(k, a) => tell(
+            Hpa(BASE_BYTES),
             frames,
             domains,
             stock,
@@ -114,16 +88,25 @@ fn run_step(
             g,
             seq,
             k,
-            raise,
-            clear,
+            a,
         ),
-        Step::Odd => Gauge {
-            raise: 0.0,
-            clear: 0.0,
-            fill: g.fill,
-            lamp: true,
-        },
-        Step::Base => reset(frames, domains, stock, entries, 4096, g, seq, 1),
+        Step::Quiet(a) => quiet(frames, domains, stock, entries, g, a),
+        Step::Word(place, word) => {
+            put(frames, domains, stock, place, word);
+            g
+        }
+        Step::Odd => odd(g),
+        Step::Base => tell(
+            Hpa(4096),
+            frames,
+            domains,
+            stock,
+            entries,
+            g,
+            seq,
+            1,
+            Ask::Reset,
+        ),
     }
 }
 

@@ -1,7 +1,9 @@
 // A step of a sequence, and the beginnings that sequences share. 512 frames, 2 records, 4 tables.
+use crate::ask;
 use crate::names;
 use crate::say;
 use calls::Answer;
+use calls::Ask;
 use calls::Call;
 use gauge::Gauge;
 use ledger::count;
@@ -50,32 +52,40 @@ pub(crate) fn say_gauge(frames: &[u64], g: Gauge) {
     say::last(b"lamp", 0);
 }
 
-// What a sequence does at a place: nothing more; a reset; a call told, or one that an earlier sequence has told; a word written by hand;
-// the marks set; a gauge out of rule lent; a reset at another base.
+// What a sequence does at a place: nothing more; something asked and told, or asked only, since an earlier sequence has told it; a word
+// written by hand; a gauge out of rule lent; a reset at another base.
 pub enum Step {
     End,
-    Reset,
-    Quiet(Call),
-    Ask(u64, Call),
-    Frame(usize, u64),
-    Record(u64),
-    Stock(u64),
-    Marks(u64, f64, f64),
+    Told(u64, Ask),
+    Quiet(Ask),
+    Word(Place, u64),
     Odd,
     Base,
+}
+
+// Where a word is written: a frame's, the first record's scalars, the stock's first.
+pub enum Place {
+    Frame(usize),
+    Record,
+    Stock,
+}
+
+// A control page more.
+fn listed(frame: usize) -> Step {
+    ask::quiet(Call::AddCx(at(0), at(frame)))
 }
 
 // A domain at frame 0, key 32, control pages at frames 1 to 4, initialized.
 pub(crate) fn built(n: u64) -> Step {
     match n {
-        0 => Step::Reset,
-        1 => Step::Quiet(Call::Create(at(0), 32)),
-        2 => Step::Quiet(Call::KeyConfig(at(0))),
-        3 => Step::Quiet(Call::AddCx(at(0), at(1))),
-        4 => Step::Quiet(Call::AddCx(at(0), at(2))),
-        5 => Step::Quiet(Call::AddCx(at(0), at(3))),
-        6 => Step::Quiet(Call::AddCx(at(0), at(4))),
-        7 => Step::Quiet(Call::Init(at(0))),
+        0 => ask::reset(),
+        1 => ask::quiet(Call::Create(at(0), 32)),
+        2 => ask::quiet(Call::KeyConfig(at(0))),
+        3 => listed(1),
+        4 => listed(2),
+        5 => listed(3),
+        6 => listed(4),
+        7 => ask::quiet(Call::Init(at(0))),
         _ => Step::End,
     }
 }

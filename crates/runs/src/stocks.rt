@@ -7,7 +7,7 @@ use units::address::Gpa;
 // A key is taken until keyfree, and a record until its TDR is reclaimed.
 pub(crate) fn keys(n: u64) -> Step {
     match n {
-        0 => Step::Reset,
+        0 => ask::reset(),
         1 => ask::create(1, 0, 32),
         2 => ask::create(2, 1, 32),
         3 => ask::create(3, 1, 33),

@@ -1,10 +1,6 @@
--- "Lines end in LF; a last line may lack it. [..] or a line above 120 bytes (LF not counted) answers 15. Line 10001 answers 15 and ends the
--- reading."
-use Prim.Native.Nat.{ℕ, _+_}
+-- What a whole line of a script comes to, on any tables and gauge, with its answer written behind what the output has.
+use Prim.Native.Nat.{ℕ}
 use mathlib.Core.List.{List}
-use lib.ListN.{set}
-use lib.Dec.{eqb, leb, ltb}
-use Rattle.rules.specs.Rule.{iff, need}
 use Rattle.units.specs.declared.address.Hpa.{Hpa}
 use Rattle.gauge.specs.declared.Gauge.{Gauge}
 use Rattle.ledger.specs.Tables.{Tables}
@@ -13,26 +9,6 @@ use Rattle.answers.specs.Answers.{Pen, wrote, answerLine, unreadableLine}
 use Rattle.script.specs.Lines.{lineOf}
 use Rattle.script.specs.declared.line.Line.{Line}
 use Rattle.script.specs.declared.line.Line.the-variants.{Call, Unreadable}
-use Rattle.session.specs.declared.Feed.{Feed}
-use Rattle.session.specs.declared.Turn.{Turn}
-use Rattle.session.specs.declared.Turn.the-variants.{Hold, Ends, Stop}
-
-abbrev feed : ℕ → ℕ → Feed
-feed n h = record { lines = n; held = h }
-
--- a line holds at most 121 bytes: one more than a readable line has
-unfoldable pub turnOf : Feed → ℕ → Turn
-turnOf f byte =
-    need (ltb (f .lines) 10000) Stop (
-    iff (eqb byte 10) (Ends (feed (f .lines + 1) 0)) (
-    iff (leb 121 (f .held)) (Hold f)
-    (Hold (feed (f .lines) (f .held + 1)))))
-
-unfoldable pub heldAfter : List ℕ → ℕ → ℕ → List ℕ
-heldAfter buffer held byte = set buffer held byte
-
-unfoldable pub least : ℕ → ℕ → ℕ
-least a b = iff (leb a b) a b
 
 -- the tables, the gauge and the output after a line
 pub record Replies : Type 0 where

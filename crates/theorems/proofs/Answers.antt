@@ -21,7 +21,8 @@ use Rattle.calls.specs.declared.Call.{Call}
 use Rattle.calls.specs.declared.Call.the-variants as call
 use Rattle.plan.specs.Changes.{gain, lose}
 use Rattle.domains.specs.Domains.{keyconfigPlan, initPlan, finalizePlan, trackPlan, flushdonePlan, keyfreePlan, enlistAt, addcxPlan, newRecord, createAt, createPlan}
-use Rattle.trees.specs.Trees.{septAt, pageAt, septaddPlan, pagePlan, blockAt, blockPlan, unblockAt, unblockPlan, pageremoveAt, pageremovePlan, septremoveAt, septremovePlan, readentryAt, readentryPlan}
+use Rattle.adds.specs.Adds.{septAt, pageAt, septaddPlan, pagePlan}
+use Rattle.trees.specs.Trees.{blockAt, blockPlan, unblockAt, unblockPlan, pageremoveAt, pageremovePlan, septremoveAt, septremovePlan, readentryAt, readentryPlan}
 use Rattle.pages.specs.Pages.{reclaimTdr, reclaimChild, reclaimAt, reclaimPlan, readpagePlan}
 use Rattle.host.specs.Calls.{Outcome, outcome, planOf, settled, ruleOf, callOf}
 use Rattle.theorems.specs.Checks.{kindIs, window, ofTdr, ofChild, reads, checksOf, allChecks}

@@ -4,11 +4,11 @@ use Rattle.units.specs.declared.address.Hpa.{Hpa}
 use Rattle.gauge.specs.declared.Gauge.{Gauge}
 use Rattle.ledger.specs.Tables.{Tables}
 use Rattle.entry.specs.Asks.{askOf}
-use Rattle.entry.specs.declared.Ask.{Ask}
-use Rattle.entry.specs.declared.Ask.the-variants.{Host, Marks, Reset, Unreadable}
+use Rattle.calls.specs.declared.Ask.{Ask}
+use Rattle.calls.specs.declared.Ask.the-variants.{Host, Marks, Reset, Unreadable}
 use Rattle.reefnettle.specs.Door.{doorOf}
-use Rattle.reefnettle.specs.Requests.{askFor}
-use Rattle.reefnettle.specs.declared.request.Request.{Request}
+use Rattle.requests.specs.Requests.{askFor}
+use Rattle.requests.specs.declared.Request.{Request}
 use Rattle.theorems.proofs.Outcomes.{Kept, call-kept, reset-kept, marks-kept}
 
 pub ask-kept : (base : Hpa) (t : Tables) (g : Gauge) (a : Ask) → Kept t g (askOf base t g a)

@@ -8,7 +8,7 @@ use Rattle.units.specs.declared.address.Pfn.{Pfn}
 use Rattle.ledger.specs.Tables.{Tables}
 use Rattle.calls.specs.declared.Answer.{Answer}
 use Rattle.calls.specs.declared.Answer.the-variants.{No}
-use Rattle.plan.specs.Changes.{refuse}
+use Rattle.plan.specs.Changes.{refuse, onSpot}
 use Rattle.plan.specs.Lookup.{onOperand, onLookup, spotOperands, liveFor}
 use Rattle.plan.specs.declared.edit.Plan.{Plan}
 use Rattle.plan.specs.declared.edit.Plan.the-variants.{Say}
@@ -17,7 +17,7 @@ use Rattle.plan.specs.declared.lookup.Lookup.{Lookup}
 use Rattle.plan.specs.declared.lookup.Lookup.the-variants.{Is, Not}
 use Rattle.plan.specs.declared.lookup.Operand.{Operand}
 use Rattle.plan.specs.declared.lookup.Operand.the-variants.{Frame, Bad}
-use Rattle.trees.specs.Trees.{onSpot, liveAt}
+use Rattle.trees.specs.Trees.{liveAt}
 
 -- a bad operand is answered before D is looked for, and so it is after
 first : (o : Operand) (f : Pfn → Lookup) (k : Found → Plan) → onLookup (onOperand o (λ j. Not (No 1 j)) f) Say k ≡ onOperand o (refuse 1) (λ n. onLookup (f n) Say k)

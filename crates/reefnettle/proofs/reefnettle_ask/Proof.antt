@@ -56,23 +56,23 @@ use Rattle.calls.proofs.values_of.Symbol.{name as #calls·values}
 use Rattle.calls.proofs.values_of.Met as third-thm
 use Rattle.host.specs.Calls.{outcome}
 use Rattle.entry.specs.Asks.{askOf}
-use Rattle.entry.specs.declared.Ask.{Ask}
-use Rattle.entry.proofs.Ask as K
-use Rattle.entry.proofs.Ask.Laws as K′
+use Rattle.calls.specs.declared.Ask.{Ask}
+use Rattle.calls.proofs.Ask as K
+use Rattle.calls.proofs.Ask.Laws as K′
 use Rattle.entry.proofs.Lent.{Slice, slice-val, base-val, ask-val, answer-val, ask-is, answer-is}
 use Rattle.entry.proofs.enter as second
 use Rattle.entry.proofs.enter.Symbol as second-def
 use Rattle.entry.proofs.enter.Symbol.{name as #entry·enter}
 use Rattle.entry.proofs.enter.Met as second-thm
-use Rattle.reefnettle.specs.Requests.{askFor}
+use Rattle.requests.specs.Requests.{askFor}
 use Rattle.reefnettle.specs.Door.{readOut, shown, doorOf}
-use Rattle.reefnettle.specs.declared.request.Request.{Request}
-use Rattle.reefnettle.proofs.request.Request as Q
-use Rattle.reefnettle.proofs.request.Request.Laws as Q′
-use Rattle.reefnettle.proofs.request.ask_of as first
-use Rattle.reefnettle.proofs.request.ask_of.Symbol as first-def
-use Rattle.reefnettle.proofs.request.ask_of.Symbol.{name as #request·ask}
-use Rattle.reefnettle.proofs.request.ask_of.Met as first-thm
+use Rattle.requests.specs.declared.Request.{Request}
+use Rattle.requests.proofs.Request as Q
+use Rattle.requests.proofs.Request.Laws as Q′
+use Rattle.requests.proofs.ask_of as first
+use Rattle.requests.proofs.ask_of.Symbol as first-def
+use Rattle.requests.proofs.ask_of.Symbol.{name as #requests·ask}
+use Rattle.requests.proofs.ask_of.Met as first-thm
 use Rattle.reefnettle.proofs.reefnettle_ask.Key.{name as #reefnettle·reefnettle_ask}
 use Rattle.reefnettle.proofs.reefnettle_ask as f
 use Rattle.reefnettle.proofs.reefnettle_ask.Statement as stated
@@ -173,7 +173,7 @@ module _ {M : Type 1} (𝓤 : URA M) (H : Heap 𝓤) (A : Atoms 𝓤) (W : Given
       nothing ! $ owned ! K.the-row (Is K.the-row) (EL.makes K.the-type K′.the-plain 𝓤 H A) k _ k-is $ fjoin ! $ move ! (2 ∷ 0 ∷ []) $ fjoin ! $ move ! (1 ∷ 0 ∷ []) $ fjoin ! $ move ! (1 ∷ 0 ∷ []) $ fjoin ! $ move ! (1 ∷ 0 ∷ []) $ fjoin ! $ move ! (1 ∷ 0 ∷ []) $ fjoin ! $
       owned ! B.the-row (Is B.the-row) (LL.makes B.the-type B′.the-plain 𝓤 H A) base _ base-is $ fjoin ! $ move ! (1 ∷ 0 ∷ []) $ join ! $ frame ! $ done !
 
-  module _ (C : Calls 𝓤 H) (Λ : Loops 𝓤 H) (fm : FmC 𝓤 H (W .laws) C) (first-known : Triple 𝓤 (C #request·ask) (First 𝓤 H A at-mem run)) (second-known : Triple 𝓤 (C #entry·enter) (Second 𝓤 H A at-mem run)) (third-known : Triple 𝓤 (C #calls·values) (Third 𝓤 H A at-mem run)) where
+  module _ (C : Calls 𝓤 H) (Λ : Loops 𝓤 H) (fm : FmC 𝓤 H (W .laws) C) (first-known : Triple 𝓤 (C #requests·ask) (First 𝓤 H A at-mem run)) (second-known : Triple 𝓤 (C #entry·enter) (Second 𝓤 H A at-mem run)) (third-known : Triple 𝓤 (C #calls·values) (Third 𝓤 H A at-mem run)) where
     walk : Room u64 (length (xF .now)) → Room u64 (length (xD .now)) → Room u64 (length (xS .now)) → Room u32 (length (xE .now))
         → ent 𝓤 (onEntry 𝓤 H A f.signature (κ₀, (κ₁, (κ₂, (κ₃, (κ′, tt))))) (q₀, (q₁, (q₂, (q₃, (q′, tt))))) a at) (WpFn 𝓤 H C Λ code.function (base-val base ∷ slice-val xF ∷ slice-val xD ∷ slice-val xS ∷ slice-val xE ∷ ref ∷ request-val rq ∷ []) Post)
     walk roomF roomD roomS roomE =
@@ -225,7 +225,7 @@ module _ {M : Type 1} (𝓤 : URA M) (H : Heap 𝓤) (A : Atoms 𝓤) (W : Given
         keep ! (1 ∷ 2 ∷ 4 ∷ 5 ∷ 6 ∷ 7 ∷ []) $ by ! (exits y (zs .1 .1 .1 .1 .1 .0) (zs .1 .0) (zs .1 .1 .0) (zs .1 .1 .1 .0) (zs .1 .1 .1 .1 .0) (told base (lent (xF .now) (xD .now) (xS .now) (xE .now)) (lent (zs .1 .0) (zs .1 .1 .0) (zs .1 .1 .1 .0) (zs .1 .1 .1 .1 .0)) (g .now) (zs .1 .1 .1 .1 .1 .0) rq k v y ke e ye) eF eD eS eE (values-is y w₃ is))))))))))))))))))))))))))))))))))))))
 
 module _ {M : Type 1} (𝓤 : URA M) (H : Heap 𝓤) (A : Atoms 𝓤) (W : Given 𝓤 H A) (mem : Memory → SProp 𝓤) (run : Routine → Fun 𝓤) where
-  ask-walks : (C : Calls 𝓤 H) (Λ : Loops 𝓤 H) → FmC 𝓤 H (W .laws) C → Triple 𝓤 (C #request·ask) (First 𝓤 H A mem run) → Triple 𝓤 (C #entry·enter) (Second 𝓤 H A mem run) → Triple 𝓤 (C #calls·values) (Third 𝓤 H A mem run)
+  ask-walks : (C : Calls 𝓤 H) (Λ : Loops 𝓤 H) → FmC 𝓤 H (W .laws) C → Triple 𝓤 (C #requests·ask) (First 𝓤 H A mem run) → Triple 𝓤 (C #entry·enter) (Second 𝓤 H A mem run) → Triple 𝓤 (C #calls·values) (Third 𝓤 H A mem run)
       → Walks 𝓤 H A f.ended stayed (WpFn 𝓤 H C Λ code.function) (f.clauses 𝓤 H A mem run)
   ask-walks C Λ fm first-known second-known third-known = walked 𝓤 H A f.ended stayed (f.clauses 𝓤 H A mem run) (WpFn 𝓤 H C Λ code.function)
       (λ κs. (LL.vals B.the-type B′.the-laws, (slice-vals, (slice-vals, (slice-vals, (slice-vals, (ptr-vals, (LL.vals Q.the-type Q′.the-laws, tt))))))))
@@ -254,7 +254,7 @@ module _ {M : Type 1} (𝓤 : URA M) (H : Heap 𝓤) (A : Atoms 𝓤) (W : Given
   )
 
 ask-meets : {M : Type 1} (𝓤 : URA M) (H : Heap 𝓤) (A : Atoms 𝓤) → Given 𝓤 H A → (mem : Memory → SProp 𝓤) (run : Routine → Fun 𝓤) (𝓣 : Tables 𝓤 H)
-    → Triple 𝓤 (𝓣 .C #request·ask) (First 𝓤 H A mem run) → Triple 𝓤 (𝓣 .C #entry·enter) (Second 𝓤 H A mem run) → Triple 𝓤 (𝓣 .C #calls·values) (Third 𝓤 H A mem run)
+    → Triple 𝓤 (𝓣 .C #requests·ask) (First 𝓤 H A mem run) → Triple 𝓤 (𝓣 .C #entry·enter) (Second 𝓤 H A mem run) → Triple 𝓤 (𝓣 .C #calls·values) (Third 𝓤 H A mem run)
     → Meets 𝓤 H A f.signature (WpFn 𝓤 H (𝓣 .C) (𝓣 .Λ) code.function) (f.spec 𝓤 H A mem run)
 ask-meets 𝓤 H A W mem run 𝓣 first-known second-known third-known =
     walk-meets 𝓤 H A f.ended stayed W (goes 𝓤 H A W mem run) (f.clauses 𝓤 H A mem run) (WpFn 𝓤 H (𝓣 .C) (𝓣 .Λ) code.function) (WpFn-mono 𝓤 H (W .laws) 𝓣 code.function)
@@ -266,6 +266,6 @@ reefnettle-ask-spec 𝓤 H 𝓜 𝓖 𝓡 =
     entered 𝓤 H (tripleOf 𝓤 H (𝓖 .A) f.signature (f.spec 𝓤 H (𝓖 .A) (𝓜 .mem) (𝓡 .run)))
     (tables 𝓤 H 𝓜 𝓡 code.env .C) (tables 𝓤 H 𝓜 𝓡 code.env .Λ) #reefnettle·reefnettle_ask code.function (code.unfolded 𝓤 H 𝓜 𝓡)
     (ask-meets 𝓤 H (𝓖 .A) (givenOf 𝓤 H 𝓜 𝓖) (𝓜 .mem) (𝓡 .run) (tablesOf 𝓤 H 𝓜 (tables 𝓤 H 𝓜 𝓡 code.env))
-    (cited 𝓤 H (First 𝓤 H (𝓖 .A) (𝓜 .mem) (𝓡 .run)) 𝓜 𝓡 code.env #request·ask first-def.routine code.calls-reefnettle·request·ask-of (first-thm.met 𝓤 H 𝓜 𝓖 𝓡))
+    (cited 𝓤 H (First 𝓤 H (𝓖 .A) (𝓜 .mem) (𝓡 .run)) 𝓜 𝓡 code.env #requests·ask first-def.routine code.calls-requests·ask-of (first-thm.met 𝓤 H 𝓜 𝓖 𝓡))
     (cited 𝓤 H (Second 𝓤 H (𝓖 .A) (𝓜 .mem) (𝓡 .run)) 𝓜 𝓡 code.env #entry·enter second-def.routine code.calls-entry·enter (second-thm.met 𝓤 H 𝓜 𝓖 𝓡))
     (cited 𝓤 H (Third 𝓤 H (𝓖 .A) (𝓜 .mem) (𝓡 .run)) 𝓜 𝓡 code.env #calls·values third-def.routine code.calls-calls·values-of (third-thm.met 𝓤 H 𝓜 𝓖 𝓡)))
