@@ -10,9 +10,9 @@ use Rattle.rules.specs.Rule.{iff}
 use Rattle.answers.specs.Answers.{Pen, pen, wroteByte, wrote, readOut, lineWith, pairsLine}
 use Rattle.calls.specs.declared.Answer.{Answer}
 use Rattle.calls.specs.declared.Values.{Values}
-use Rattle.script.specs.Number.{nought, decimal}
-use Rattle.script.proofs.Lists.{next}
-use Rattle.script.proofs.Decimals.{decimal-one, decimal-more}
+use Rattle.numbers.specs.Number.{nought, decimal}
+use Rattle.numbers.proofs.Lists.{next}
+use Rattle.numbers.proofs.Decimals.{decimal-one, decimal-more}
 
 wrote-append : (a b : List ℕ) (p : Pen) → wrote (a ++ b) p ≡ wrote b (wrote a p)
 unfolding wrote

@@ -11,7 +11,7 @@ use Rattle.calls.specs.Answers.{numberOf}
 use Rattle.calls.specs.declared.Answer.{Answer}
 use Rattle.calls.specs.declared.Answer.the-variants.{Done, Page, Entry, No, Stop}
 use Rattle.script.specs.Text.{bytes, lf}
-use Rattle.script.specs.Number.{decimal}
+use Rattle.numbers.specs.Number.{decimal}
 
 -- a buffer, and how much of it is written
 pub record Pen : Type 0 where

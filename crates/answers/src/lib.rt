@@ -1,12 +1,12 @@
 // Answers, written as lines into a lent buffer, as much as it has room for. Each function gives the place behind what it wrote.
 ghost use mathlib.Core.Path.{_≡_};
 ghost use mathlib.Core.List.{_++_};
-ghost use Rattle.script.specs.Number.{decimal};
+ghost use Rattle.numbers.specs.Number.{decimal};
 ghost use Rattle.answers.specs.Answers.{pen, wroteByte, wrote, pairs, levelState, typeOwner, levelStateHpa, readOut, lineWith, answerLine, unreadableLine, pairsLine, firstLine, lampNumber, lastLine};
 use calls;
 use calls::Answer;
+use numbers::ZERO;
 use script::line::LF;
-use script::number::ZERO;
 use units::address::Hpa;
 use units::limits::FRAME_BYTES;
 

@@ -8,7 +8,7 @@ use Rattle.rules.specs.Rule.{iff, given}
 use Rattle.rules.specs.Upto.{allFrom}
 use Rattle.units.specs.Limits.{between, framesOk, baseOk}
 use Rattle.units.specs.Address.{frameOf, hpaOf}
-use Rattle.units.specs.Level.{rowOf, gpaFits, indexAt}
+use Rattle.levels.specs.Level.{rowOf, gpaFits, indexAt}
 use Rattle.gauge.specs.Fill.{ratio}
 use Rattle.gauge.specs.Update.{fresh as reset}
 use Rattle.gauge.specs.declared.Gauge.{Gauge}

@@ -5,7 +5,6 @@ use units::address::Gpa;
 use units::address::Hpa;
 use units::address::Pfn;
 use units::address::Place;
-use units::level;
 use units::limits;
 
 // The replay program's window.
@@ -35,19 +34,19 @@ fn frame(number: usize) {
 fn gpa(bytes: u64, level: usize) {
     say::field(b"gpa", bytes);
     say::field(b"level", level as u64);
-    say::verdict(level::gpa_fits(Gpa(bytes), level));
+    say::verdict(levels::gpa_fits(Gpa(bytes), level));
 }
 
 fn index(bytes: u64, level: usize) {
     say::field(b"gpa", bytes);
     say::field(b"level", level as u64);
-    say::last(b"index", level::index_at(Gpa(bytes), level) as u64);
+    say::last(b"index", levels::index_at(Gpa(bytes), level) as u64);
 }
 
 fn level(least: usize, level: usize) {
     say::field(b"least", least as u64);
     say::field(b"level", level as u64);
-    say::verdict(level::level_ok(least, level));
+    say::verdict(levels::level_ok(least, level));
 }
 
 fn frames(number: u64) {

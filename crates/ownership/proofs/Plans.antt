@@ -10,7 +10,7 @@ use borrow.Author.Tests.{eqb-true, eqb-false, ltb-true, leb-true, lt-ltb, ne-eqb
 use Rattle.rules.specs.Rule.{iff, given}
 use Rattle.rules.proofs.Steps.{iff-both}
 use Rattle.rules.proofs.Uptos.{all-at}
-use Rattle.units.specs.Level.{topLevel}
+use Rattle.levels.specs.Level.{topLevel}
 use Rattle.units.specs.Limits.{between, tableEntries, controlPages, epochMost, epochOk}
 use Rattle.units.specs.declared.address.Hpa.{Hpa}
 use Rattle.units.specs.declared.address.Gpa.{Gpa}

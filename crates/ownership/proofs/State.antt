@@ -9,7 +9,7 @@ use lib.ListN.{length}
 use borrow.Author.Tests.{eqb-true, ltb-true, eq-eqb, lt-ltb}
 use Rattle.rules.specs.Rule.{iff, given}
 use Rattle.rules.proofs.Steps.{iff-both, both-left, both-right}
-use Rattle.units.specs.Level.{levels, topLevel, indexAt}
+use Rattle.levels.specs.Level.{levels, topLevel, indexAt}
 use Rattle.units.specs.Limits.{tableEntries, recordWords}
 use Rattle.units.specs.declared.address.Hpa.{Hpa}
 use Rattle.units.specs.declared.address.Gpa.{Gpa}

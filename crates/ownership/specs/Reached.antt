@@ -7,7 +7,7 @@ use lib.Ieee.{Float}
 use lib.ListN.{length}
 use Rattle.rules.specs.Rule.{iff}
 use Rattle.units.specs.Address.{frameOf}
-use Rattle.units.specs.Level.{levels}
+use Rattle.levels.specs.Level.{levels}
 use Rattle.units.specs.Limits.{tableEntries}
 use Rattle.units.specs.declared.address.Hpa.{Hpa}
 use Rattle.units.specs.declared.address.Pfn.{Pfn}

@@ -5,7 +5,7 @@ use lib.Dec.{eqb, ltb}
 use Rattle.rules.specs.Rule.{iff, need, given}
 use Rattle.rules.specs.Upto.{allFrom}
 use Rattle.units.specs.Limits.{between, tableEntries}
-use Rattle.units.specs.Level.{topLevel}
+use Rattle.levels.specs.Level.{topLevel}
 use Rattle.units.specs.declared.address.Gpa.{Gpa}
 use Rattle.units.specs.declared.address.Pfn.{Pfn}
 use Rattle.ledger.specs.Codes.{FREE, NL-MAPPED, MAPPED, PENDING, NL-BLOCKED, BLOCKED, PENDING-BLOCKED}

@@ -5,7 +5,7 @@ use lib.Dec.{eqb}
 use Rattle.rules.specs.Rule.{need, given}
 use Rattle.units.specs.Limits.{between, controlPages}
 use Rattle.units.specs.Address.{frameOf}
-use Rattle.units.specs.Level.{levelOk, gpaFits}
+use Rattle.levels.specs.Level.{levelOk, gpaFits}
 use Rattle.units.specs.declared.address.Hpa.{Hpa}
 use Rattle.units.specs.declared.address.Gpa.{Gpa}
 use Rattle.units.specs.declared.address.Pfn.{Pfn}

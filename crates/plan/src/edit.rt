@@ -1,5 +1,4 @@
 // What an accepted call writes: at most one frame, one control page, one domain's scalars, one block of the stock and one entry.
-ghost use mathlib.Core.Path.{_≡_};
 use calls::Answer;
 use ledger::words::Domain;
 use ledger::words::Entry;

@@ -1,6 +1,5 @@
 // Whom a call is about: the operands, the domain, and the state that its record is in.
 ghost use mathlib.Core.Path.{_≡_};
-ghost use lib.ListN.{length};
 ghost use Rattle.ledger.specs.Tables.{lent};
 ghost use Rattle.plan.specs.Lookup.{frameOperand, spotOperands, domainFor, builtFor};
 use calls::Answer;
@@ -15,7 +14,6 @@ use units::address::Gpa;
 use units::address::Hpa;
 use units::address::Pfn;
 use units::address::Place;
-use units::level;
 use units::limits;
 use units::limits::CONTROL_PAGES;
 
@@ -61,10 +59,10 @@ pub fn spot_operands(
     match frame_operand(base, frames, d, 0) {
         Operand::Bad(k) => Operand::Bad(k),
         Operand::Frame(n) => {
-            if !level::gpa_fits(gpa, level) {
+            if !levels::gpa_fits(gpa, level) {
                 return Operand::Bad(1);
             }
-            if !level::level_ok(least, level) {
+            if !levels::level_ok(least, level) {
                 return Operand::Bad(2);
             }
             Operand::Frame(n)

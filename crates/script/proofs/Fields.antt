@@ -7,10 +7,10 @@ use lib.ListN.{length, drop, drop-of-length-le}
 use lib.Seq.{drop-drop}
 use Rattle.rules.specs.Rule.{iff}
 use Rattle.script.specs.Text.{tab, upto}
-use Rattle.script.specs.Number.{numberOf}
+use Rattle.numbers.specs.Number.{numberOf}
 use Rattle.script.specs.Lines.{field, onNumber, fieldAt, numberIn}
-use Rattle.script.specs.declared.number.Number.{Number}
-use Rattle.script.specs.declared.number.Number.the-variants.{Is, No}
+use Rattle.numbers.specs.declared.Number.{Number}
+use Rattle.numbers.specs.declared.Number.the-variants.{Is, No}
 
 no-field : (k : ℕ) → fieldAt k [] ≡ []
 unfolding fieldAt upto

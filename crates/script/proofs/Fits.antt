@@ -13,13 +13,13 @@ use lib.Seq.{drop-drop}
 use Rattle.rules.specs.Rule.{iff}
 use Rattle.rules.proofs.Steps.{iff-both}
 use Rattle.script.specs.Text.{lf, tab}
-use Rattle.script.specs.Number.{numberOf}
+use Rattle.numbers.specs.Number.{numberOf}
 use Rattle.script.specs.Lines.{place, field, onNumber, starts, takenBy, onTaken, fits}
-use Rattle.script.specs.declared.number.Number.{Number}
-use Rattle.script.specs.declared.number.Number.the-variants.{Is, No}
+use Rattle.numbers.specs.declared.Number.{Number}
+use Rattle.numbers.specs.declared.Number.the-variants.{Is, No}
 use Rattle.script.specs.declared.line.Taken.{Taken}
 use Rattle.script.specs.declared.line.Taken.the-variants.{Bytes, Nothing}
-use Rattle.script.proofs.Lists.{next}
+use Rattle.numbers.proofs.Lists.{next}
 use Rattle.script.proofs.Marks.{upto-within}
 
 -- no more is taken than there is

@@ -1,8 +1,5 @@
-pub mod Lists
-pub mod Numbers
 pub mod Marks
 pub mod Ons
 pub mod Fits
 pub mod Rows
 pub mod Fields
-pub mod Decimals

@@ -10,7 +10,7 @@ use lib.ListN.{length, getD, take, drop, drop-of-length-le, length-take, length-
 use Rattle.rules.specs.Rule.{iff}
 use Rattle.rules.proofs.Steps.{iff-both}
 use Rattle.script.specs.Text.{upto}
-use Rattle.script.proofs.Lists.{next}
+use Rattle.numbers.proofs.Lists.{next}
 
 -- what the loop keeps at `at`: the mark is as far from there as from where it began
 pub record Ending (xs : List ℕ) (mark from at : ℕ) : Type 0 where

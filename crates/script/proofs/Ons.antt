@@ -2,8 +2,8 @@
 use mathlib.Core.Path.{_≡_}
 use Prim.Native.Nat.{ℕ}
 use Rattle.script.specs.Lines.{onNumber}
-use Rattle.script.specs.declared.number.Number.{Number}
-use Rattle.script.specs.declared.number.Number.the-variants.{Is, No}
+use Rattle.numbers.specs.declared.Number.{Number}
+use Rattle.numbers.specs.declared.Number.the-variants.{Is, No}
 
 module _ {A : Type 0} {r p : Number} {z : A} (y : A) (k : ℕ → A) where
   pub number-no : r ≡ p → r ≡ No → z ≡ y → z ≡ onNumber p y k

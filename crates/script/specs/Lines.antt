@@ -8,10 +8,10 @@ use lib.ListN.{length, getD, drop}
 use Rattle.rules.specs.Rule.{iff, need}
 use Rattle.calls.specs.declared.Call.{Call}
 use Rattle.script.specs.Text.{bytes, tab, lf, upto}
-use Rattle.script.specs.Number.{numberOf}
+use Rattle.numbers.specs.Number.{numberOf}
 use Rattle.script.specs.Rows.{Row, createRow, rows}
-use Rattle.script.specs.declared.number.Number.{Number}
-use Rattle.script.specs.declared.number.Number.the-variants.{Is, No}
+use Rattle.numbers.specs.declared.Number.{Number}
+use Rattle.numbers.specs.declared.Number.the-variants.{Is, No}
 use Rattle.script.specs.declared.line.Line.{Line}
 use Rattle.script.specs.declared.line.Line.the-variants as line
 use Rattle.script.specs.declared.line.Taken.{Taken}

@@ -1,3 +1,2 @@
 // The text of a script: a line read as a call.
 pub mod line;
-pub mod number;

@@ -4,11 +4,10 @@ ghost use Prim.Native.Nat.{_+_};
 ghost use mathlib.Core.List.{[], _∷_};
 ghost use lib.ListN.{length, drop};
 ghost use Rattle.script.specs.Text.{upto};
-ghost use Rattle.script.specs.Number.{numberOf};
+ghost use Rattle.numbers.specs.Number.{numberOf};
 ghost use Rattle.script.specs.Lines.{field, starts, takenBy, fits, numberIn, numbersOf, callAt, lineOf};
-use crate::number;
-use crate::number::Number;
 use calls::Call;
+use numbers::Number;
 use units::address::Gpa;
 use units::address::Hpa;
 
@@ -75,7 +74,7 @@ fn number_at(line: &[u8], from: usize) -> Number
         return Number::No;
     }
     let to = end_of(line, from, TAB);
-    number::number_of(&line[from..to])
+    numbers::number_of(&line[from..to])
 }
 
 fn starts_with(line: &[u8], at: usize, byte: u8) -> bool

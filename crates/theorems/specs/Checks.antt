@@ -8,7 +8,7 @@ use lib.Dec.{eqb, ltb, leb}
 use Rattle.rules.specs.Rule.{iff}
 use Rattle.units.specs.Limits.{between, controlPages, tableEntries, epochMost, keyOk}
 use Rattle.units.specs.Address.{frameOf}
-use Rattle.units.specs.Level.{levelOk, gpaFits}
+use Rattle.levels.specs.Level.{levelOk, gpaFits}
 use Rattle.units.specs.declared.address.Hpa.{Hpa}
 use Rattle.units.specs.declared.address.Gpa.{Gpa}
 use Rattle.units.specs.declared.address.Pfn.{Pfn}

@@ -6,7 +6,7 @@ use native.Mathlib.Omega.{arith}
 use lib.Dec.{leb, leb·zero}
 use Rattle.rules.specs.Rule.{iff, given}
 use Rattle.rules.proofs.Steps.{if-true}
-use Rattle.units.specs.Level.{indexAt}
+use Rattle.levels.specs.Level.{indexAt}
 use Rattle.units.specs.declared.address.Pfn.{Pfn}
 use Rattle.units.specs.declared.address.Gpa.{Gpa}
 use Rattle.ledger.specs.Tables.{entryAt}

@@ -5,7 +5,7 @@ use mathlib.Core.Bool.{Bool, true, false}
 use mathlib.Core.List.{List}
 use lib.Dec.{eqb, leb}
 use Rattle.rules.specs.Rule.{iff, need, given}
-use Rattle.units.specs.Level.{indexAt}
+use Rattle.levels.specs.Level.{indexAt}
 use Rattle.units.specs.declared.address.Pfn.{Pfn}
 use Rattle.units.specs.declared.address.Gpa.{Gpa}
 use Rattle.stock.specs.Bits.{inUse}

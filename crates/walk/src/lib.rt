@@ -10,7 +10,6 @@ use ledger::words::Entry;
 use stock::bits;
 use units::address::Gpa;
 use units::address::Pfn;
-use units::level;
 
 // How a walk ends: at an entry, by its block and index; stopped, with the level and state there (answer 6); or at a frame that it
 // may not follow (answer 14).
@@ -64,7 +63,7 @@ pub fn walk_from(
 ) -> Walk
     ensures { λ r. ⌜ r ≡ walkFrom (now (frames .entry)) (now (stock .entry)) (now (entries .entry)) tdr gpa want level block ⌝ }
 {
-    let index = level::index_at(gpa, level);
+    let index = levels::index_at(gpa, level);
     if level <= want {
         return Walk::At(block, index);
     }

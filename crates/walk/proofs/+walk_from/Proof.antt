@@ -12,7 +12,7 @@ use Rattle.walk.proofs.walk_from.Kinds as walk-from-kinds
 use Rattle.walk.proofs.+walk_from.Lts-walk_from as walk-from-lts
 use Rattle.ledger.proofs.tables.entry_at.Reads as entry-at-reads
 use Rattle.ledger.proofs.tables.frame_at.Reads as frame-at-reads
-use Rattle.units.proofs.level.index_at.Reads as index-at-reads
+use Rattle.levels.proofs.index_at.Reads as index-at-reads
 use Rattle.walk.proofs.+walk_from.{statement}
 use Rattle.walk.proofs.+walk_from.Tie.{close}
 

@@ -3,7 +3,7 @@ use native.Mathlib.Omega.{arith}
 use lib.ListN.{drop-of-length-le}
 use Rattle.rules.specs.Rule.{iff}
 use Rattle.script.specs.Text.{tab, upto}
-use Rattle.script.specs.Number.{numberOf}
+use Rattle.numbers.specs.Number.{numberOf}
 use Rattle.script.proofs.Marks.{mark-within, mark-part}
 use borrow.Author.Needs.{needs}
 use Rattle.script.proofs.line.number_at.Statement.{statement}

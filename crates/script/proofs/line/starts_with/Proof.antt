@@ -1,6 +1,6 @@
 use lib.ListN.{drop-of-length-le}
 use Rattle.script.specs.Lines.{starts}
-use Rattle.script.proofs.Lists.{next}
+use Rattle.numbers.proofs.Lists.{next}
 use borrow.Author.Needs.{needs}
 use Rattle.script.proofs.line.starts_with.Statement.{statement}
 use Rattle.script.proofs.line.starts_with.Tie as tie
