@@ -1,14 +1,35 @@
 // The stock: the lowest unused block is taken, one given back is used again, and a block is wiped without its neighbours.
 use crate::say;
-use crate::tree;
 use ledger::codes::MAPPED;
 use ledger::tables;
+use ledger::words::Entry;
 use stock::bits;
 use stock::bits::Lowest;
 use stock::wipe;
+use units::address::Pfn;
+
+const STOCK_WORDS: usize = 1;
+
+// The root of record 0 is the block behind four tables.
+const ROOT: usize = 4;
 
 // Three blocks.
 const ENTRIES: usize = 1536;
+
+fn entry(state: u64, frame: usize) -> Entry {
+    Entry {
+        state,
+        frame: Pfn(frame),
+    }
+}
+
+// A block's in-use bit.
+fn use_of(stock: &[u64], block: usize) -> u64 {
+    if bits::in_use(stock, block) {
+        return 1;
+    }
+    0
+}
 
 fn lowest(stock: &[u64], from: usize, to: usize) {
     say::field(b"from", from as u64);
@@ -22,22 +43,22 @@ fn lowest(stock: &[u64], from: usize, to: usize) {
 fn put(stock: &mut [u64], block: usize, on: bool) {
     bits::put_use(stock, block, on);
     say::field(b"block", block as u64);
-    say::last(b"used", tree::use_of(stock, block));
+    say::last(b"used", use_of(stock, block));
 }
 
 // Four tables and a record's root.
 fn take_and_give() {
-    let mut stock = [0u64; tree::STOCK_WORDS];
-    lowest(&stock, 0, tree::ROOT);
+    let mut stock = [0u64; STOCK_WORDS];
+    lowest(&stock, 0, ROOT);
     put(&mut stock, 0, true);
-    lowest(&stock, 0, tree::ROOT);
+    lowest(&stock, 0, ROOT);
     put(&mut stock, 1, true);
     put(&mut stock, 2, true);
     put(&mut stock, 3, true);
-    lowest(&stock, 0, tree::ROOT);
-    lowest(&stock, tree::ROOT, tree::ROOT + 1);
+    lowest(&stock, 0, ROOT);
+    lowest(&stock, ROOT, ROOT + 1);
     put(&mut stock, 1, false);
-    lowest(&stock, 0, tree::ROOT);
+    lowest(&stock, 0, ROOT);
 }
 
 fn say_entry(label: &[u8], entries: &[u32], block: usize, index: usize) {
@@ -58,10 +79,10 @@ fn say_middle(label: &[u8], entries: &[u32]) {
 }
 
 fn put_middle(entries: &mut [u32]) {
-    tables::put_entry(entries, 0, 511, tree::entry(MAPPED, 8));
-    tables::put_entry(entries, 1, 0, tree::entry(MAPPED, 8));
-    tables::put_entry(entries, 1, 511, tree::entry(MAPPED, 8));
-    tables::put_entry(entries, 2, 0, tree::entry(MAPPED, 8));
+    tables::put_entry(entries, 0, 511, entry(MAPPED, 8));
+    tables::put_entry(entries, 1, 0, entry(MAPPED, 8));
+    tables::put_entry(entries, 1, 511, entry(MAPPED, 8));
+    tables::put_entry(entries, 2, 0, entry(MAPPED, 8));
 }
 
 fn wipe_middle() {
