@@ -2,46 +2,12 @@
 ghost use mathlib.Core.Path.{_≡_};
 ghost use Rattle.ledger.specs.Tables.{lent};
 ghost use Rattle.host.specs.Calls.{outcome};
-ghost use Rattle.entry.specs.Asks.{askOf};
+ghost use Rattle.asks.specs.Asks.{askOf};
 use calls::Answer;
 use calls::Ask;
 use gauge::Gauge;
-use host::call;
 use host::call::Reply;
-use host::setting;
 use units::address::Hpa;
-
-// Any ask, with the gauge by value.
-pub fn answer_ask(
-    base: Hpa,
-    frames: &mut [u64],
-    domains: &mut [u64],
-    stock: &mut [u64],
-    entries: &mut [u32],
-    g: Gauge,
-    ask: Ask,
-) -> Reply
-    ensures { λ r. ⌜ outcome (r .answer) (lent (now (frames .exit)) (now (domains .exit)) (now (stock .exit)) (now (entries .exit))) (r .gauge) ≡ askOf base (lent (now (frames .entry)) (now (domains .entry)) (now (stock .entry)) (now (entries .entry))) g ask ⌝ }
-{
-    match ask {
-        Ask::Host(c) => call::answer_call(base, frames, domains, stock, entries, g, c),
-        Ask::Marks(raise, clear) => setting::set_marks(
-            base,
-            frames,
-            domains,
-            stock,
-            entries,
-            g,
-            raise,
-            clear,
-        ),
-        Ask::Reset => setting::reset(base, frames, domains, stock, entries, g),
-        Ask::Unreadable => Reply {
-            answer: Answer::No(15, 0),
-            gauge: g,
-        },
-    }
-}
 
 // The thin entry: the lent gauge is copied out, and the gauge that came back is stored in its place.
 pub fn enter(
@@ -55,7 +21,7 @@ pub fn enter(
 ) -> Answer
     ensures { λ r. ⌜ outcome r (lent (now (frames .exit)) (now (domains .exit)) (now (stock .exit)) (now (entries .exit))) (now (g .exit)) ≡ askOf base (lent (now (frames .entry)) (now (domains .entry)) (now (stock .entry)) (now (entries .entry))) (now (g .entry)) ask ⌝ }
 {
-    let r = answer_ask(base, frames, domains, stock, entries, *g, ask);
+    let r = asks::answer_ask(base, frames, domains, stock, entries, *g, ask);
     *g = r.gauge;
     r.answer
 }

@@ -5,7 +5,7 @@ use Rattle.ledger.specs.Tables.{Tables}
 use Rattle.calls.specs.Answers.{valuesOf}
 use Rattle.calls.specs.declared.Values.{Values}
 use Rattle.host.specs.Calls.{Outcome}
-use Rattle.entry.specs.Asks.{askOf}
+use Rattle.asks.specs.Asks.{askOf}
 use Rattle.requests.specs.Requests.{askFor}
 use Rattle.requests.specs.declared.Request.{Request}
 

@@ -53,16 +53,16 @@ use Rattle.host.specs.Calls.{outcome}
 use Rattle.host.specs.declared.call.Reply.{Reply}
 use Rattle.host.proofs.call.Reply as S
 use Rattle.host.proofs.call.Reply.Laws as S′
-use Rattle.entry.specs.Asks.{askOf}
+use Rattle.asks.specs.Asks.{askOf}
 use Rattle.calls.specs.declared.Ask.{Ask}
 use Rattle.calls.proofs.Ask as K
 use Rattle.calls.proofs.Ask.Laws as K′
 use Rattle.entry.proofs.Lent.{Slice, slice-val, base-val, ask-val, answer-val}
 use Rattle.entry.proofs.Lies.{mach}
-use Rattle.entry.proofs.answer_ask as core
-use Rattle.entry.proofs.answer_ask.Symbol as core-def
-use Rattle.entry.proofs.answer_ask.Symbol.{name as #entry·answer_ask}
-use Rattle.entry.proofs.answer_ask.Met as core-thm
+use Rattle.asks.proofs.answer_ask as core
+use Rattle.asks.proofs.answer_ask.Symbol as core-def
+use Rattle.asks.proofs.answer_ask.Symbol.{name as #asks·answer_ask}
+use Rattle.asks.proofs.answer_ask.Met as core-thm
 use Rattle.entry.proofs.enter.Key.{name as #entry·enter}
 use Rattle.entry.proofs.enter as f
 use Rattle.entry.proofs.enter.Statement as stated
@@ -142,7 +142,7 @@ module _ {M : Type 1} (𝓤 : URA M) (H : Heap 𝓤) (A : Atoms 𝓤) (W : Given
       owned ! B.the-row (Is B.the-row) (LL.makes B.the-type B′.the-plain 𝓤 H A) base _ base-is $ fjoin ! $
       move ! (1 ∷ 0 ∷ []) $ join ! $ frame ! $ done !
 
-  module _ (C : Calls 𝓤 H) (Λ : Loops 𝓤 H) (fm : FmC 𝓤 H (W .laws) C) (known : Triple 𝓤 (C #entry·answer_ask) (Core 𝓤 H A at-mem run)) where
+  module _ (C : Calls 𝓤 H) (Λ : Loops 𝓤 H) (fm : FmC 𝓤 H (W .laws) C) (known : Triple 𝓤 (C #asks·answer_ask) (Core 𝓤 H A at-mem run)) where
     walk : Room u64 (length (xF .now)) → Room u64 (length (xD .now)) → Room u64 (length (xS .now)) → Room u32 (length (xE .now))
         → ent 𝓤 (onEntry 𝓤 H A f.signature (κ₀, (κ₁, (κ₂, (κ₃, (κ′, tt))))) (q₀, (q₁, (q₂, (q₃, (q′, tt))))) a at) (WpFn 𝓤 H C Λ code.function (base-val base ∷ slice-val xF ∷ slice-val xD ∷ slice-val xS ∷ slice-val xE ∷ vptr b o ∷ ask-val k ∷ []) Post)
     walk roomF roomD roomS roomE =
@@ -191,7 +191,7 @@ module _ {M : Type 1} (𝓤 : URA M) (H : Heap 𝓤) (A : Atoms 𝓤) (W : Given
         keep ! (0 ∷ 1 ∷ 2 ∷ 4 ∷ 5 ∷ 7 ∷ 8 ∷ 9 ∷ []) $ by ! (exits r (zs .1 .0) (zs .1 .1 .0) (zs .1 .1 .1 .0) (zs .1 .1 .1 .1 .0) e eF eD eS eE (answer-is r w is)))))))))))))))))))))))))))))))
 
 module _ {M : Type 1} (𝓤 : URA M) (H : Heap 𝓤) (A : Atoms 𝓤) (W : Given 𝓤 H A) (mem : Memory → SProp 𝓤) (run : Routine → Fun 𝓤) where
-  enter-walks : (C : Calls 𝓤 H) (Λ : Loops 𝓤 H) → FmC 𝓤 H (W .laws) C → Triple 𝓤 (C #entry·answer_ask) (Core 𝓤 H A mem run) → Walks 𝓤 H A f.ended stayed (WpFn 𝓤 H C Λ code.function) (f.clauses 𝓤 H A mem run)
+  enter-walks : (C : Calls 𝓤 H) (Λ : Loops 𝓤 H) → FmC 𝓤 H (W .laws) C → Triple 𝓤 (C #asks·answer_ask) (Core 𝓤 H A mem run) → Walks 𝓤 H A f.ended stayed (WpFn 𝓤 H C Λ code.function) (f.clauses 𝓤 H A mem run)
   enter-walks C Λ fm known = walked 𝓤 H A f.ended stayed (f.clauses 𝓤 H A mem run) (WpFn 𝓤 H C Λ code.function)
       (λ κs. (LL.vals B.the-type B′.the-laws, (slice-vals, (slice-vals, (slice-vals, (slice-vals, (ptr-vals, (EL.vals K.the-type K′.the-laws, tt))))))))
       (λ κs. (LL.tells B.the-type B′.the-laws, (mut-slice-tells (named 0) (κs .0) u64, (mut-slice-tells (named 1) (κs .1 .0) u64, (mut-slice-tells (named 2) (κs .1 .1 .0) u64, (mut-slice-tells (named 3) (κs .1 .1 .1 .0) u32, (mut-tells (named 4) (κs .1 .1 .1 .1 .0) T.the-row, (EL.tells K.the-type K′.the-laws, tt))))))))
@@ -218,7 +218,7 @@ module _ {M : Type 1} (𝓤 : URA M) (H : Heap 𝓤) (A : Atoms 𝓤) (W : Given
     ),
   )
 
-enter-meets : {M : Type 1} (𝓤 : URA M) (H : Heap 𝓤) (A : Atoms 𝓤) → Given 𝓤 H A → (mem : Memory → SProp 𝓤) (run : Routine → Fun 𝓤) (𝓣 : Tables 𝓤 H) → Triple 𝓤 (𝓣 .C #entry·answer_ask) (Core 𝓤 H A mem run)
+enter-meets : {M : Type 1} (𝓤 : URA M) (H : Heap 𝓤) (A : Atoms 𝓤) → Given 𝓤 H A → (mem : Memory → SProp 𝓤) (run : Routine → Fun 𝓤) (𝓣 : Tables 𝓤 H) → Triple 𝓤 (𝓣 .C #asks·answer_ask) (Core 𝓤 H A mem run)
     → Meets 𝓤 H A f.signature (WpFn 𝓤 H (𝓣 .C) (𝓣 .Λ) code.function) (f.spec 𝓤 H A mem run)
 enter-meets 𝓤 H A W mem run 𝓣 known =
     walk-meets 𝓤 H A f.ended stayed W (goes 𝓤 H A W mem run) (f.clauses 𝓤 H A mem run) (WpFn 𝓤 H (𝓣 .C) (𝓣 .Λ) code.function) (WpFn-mono 𝓤 H (W .laws) 𝓣 code.function)
@@ -230,4 +230,4 @@ enter-spec 𝓤 H 𝓜 𝓖 𝓡 =
     entered 𝓤 H (tripleOf 𝓤 H (𝓖 .A) f.signature (f.spec 𝓤 H (𝓖 .A) (𝓜 .mem) (𝓡 .run)))
     (tables 𝓤 H 𝓜 𝓡 code.env .C) (tables 𝓤 H 𝓜 𝓡 code.env .Λ) #entry·enter code.function (code.unfolded 𝓤 H 𝓜 𝓡)
     (enter-meets 𝓤 H (𝓖 .A) (givenOf 𝓤 H 𝓜 𝓖) (𝓜 .mem) (𝓡 .run) (tablesOf 𝓤 H 𝓜 (tables 𝓤 H 𝓜 𝓡 code.env))
-    (cited 𝓤 H (Core 𝓤 H (𝓖 .A) (𝓜 .mem) (𝓡 .run)) 𝓜 𝓡 code.env #entry·answer_ask core-def.routine code.calls-entry·answer-ask (core-thm.met 𝓤 H 𝓜 𝓖 𝓡)))
+    (cited 𝓤 H (Core 𝓤 H (𝓖 .A) (𝓜 .mem) (𝓡 .run)) 𝓜 𝓡 code.env #asks·answer_ask core-def.routine code.calls-asks·answer-ask (core-thm.met 𝓤 H 𝓜 𝓖 𝓡)))

@@ -55,7 +55,7 @@ use Rattle.host.specs.Calls.{outcome}
 use Rattle.host.specs.declared.call.Reply.{Reply}
 use Rattle.host.proofs.call.Reply as S
 use Rattle.host.proofs.call.Reply.Laws as S′
-use Rattle.entry.specs.Asks.{askOf}
+use Rattle.asks.specs.Asks.{askOf}
 use Rattle.calls.specs.declared.Ask.{Ask}
 use Rattle.calls.proofs.Ask as K
 use Rattle.calls.proofs.Ask.Laws as K′

@@ -55,7 +55,7 @@ use Rattle.calls.proofs.values_of.Symbol as third-def
 use Rattle.calls.proofs.values_of.Symbol.{name as #calls·values}
 use Rattle.calls.proofs.values_of.Met as third-thm
 use Rattle.host.specs.Calls.{outcome}
-use Rattle.entry.specs.Asks.{askOf}
+use Rattle.asks.specs.Asks.{askOf}
 use Rattle.calls.specs.declared.Ask.{Ask}
 use Rattle.calls.proofs.Ask as K
 use Rattle.calls.proofs.Ask.Laws as K′

@@ -1,4 +1,4 @@
-use Rattle.entry.specs.Asks.{askOf}
+use Rattle.asks.specs.Asks.{askOf}
 use Rattle.session.specs.Session.{answered, onLine}
 use borrow.Author.Needs.{needs}
 use Rattle.session.proofs.reply.Statement.{statement}

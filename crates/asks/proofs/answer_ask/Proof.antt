@@ -1,7 +1,7 @@
-use Rattle.entry.specs.Asks.{askOf}
+use Rattle.asks.specs.Asks.{askOf}
 use borrow.Author.Needs.{needs}
-use Rattle.entry.proofs.answer_ask.Statement.{statement}
-use Rattle.entry.proofs.answer_ask.Tie as tie
+use Rattle.asks.proofs.answer_ask.Statement.{statement}
+use Rattle.asks.proofs.answer_ask.Tie as tie
 
 pub answer-ask-spec : {M : Type 1} → statement M
 unfolding askOf
