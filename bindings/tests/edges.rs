@@ -103,7 +103,7 @@ const CASES: [Case; 43] = [
         true,
     ),
     (
-        "epoch 2^32",
+        "frame's epoch 2^32",
         |p| p.frames[8] = frame(REG, 0, 0, 4294967296),
         false,
     ),
@@ -144,12 +144,12 @@ const CASES: [Case; 43] = [
         false,
     ),
     (
-        "epoch 2^32",
+        "record's epoch 2^32",
         |p| p.domains[0] = scalars(47, 3, 2, 4, 512, 4294967296),
         false,
     ),
     (
-        "epoch 0",
+        "record's epoch 0",
         |p| p.domains[0] = scalars(47, 3, 2, 4, 512, 0),
         false,
     ),

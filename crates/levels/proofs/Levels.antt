@@ -2,11 +2,9 @@
 use mathlib.Core.Path.{_≡_, refl}
 use mathlib.Core.Bool.{Bool, true, false}
 use mathlib.Core.List.{List, [], _∷_}
-use Prim.Native.Nat.{ℕ, zero, suc, _*_, _%_, _^_, _<_}
-use native.Mathlib.Nat.{one-mul, mod-eq-of-lt}
+use Prim.Native.Nat.{ℕ, zero, suc, _<_}
 use lib.Dec.{ltb, lit<}
 use lib.ListN.{getD}
-use lib.Pow.{pow-lt}
 use borrow.Author.Tests.{ltb-true}
 use Rattle.rules.specs.Rule.{iff}
 use Rattle.rules.proofs.Steps.{both-left, both-right}
@@ -31,6 +29,3 @@ low-below l = below-at (λ (r : Row). r .low) _ levels l (lit< tt) refl
 pub shift-below : (l : ℕ) → rowOf l .shift < 64
 unfolding rowOf below iff
 shift-below l = below-at (λ (r : Row). r .shift) _ levels l (lit< tt) refl
-
-pub one-shl : (k : ℕ) → k < 64 → 1 * 2 ^ k % 18446744073709551616 ≡ 2 ^ k
-one-shl k h = rw one-mul (mod-eq-of-lt (pow-lt {j = 64} h))

@@ -8,7 +8,7 @@ use lib.Pow.{pow-pos}
 use borrow.Author.Tests.{eqb-true, eqb-false, eq-eqb, ne-eqb}
 use Rattle.rules.specs.Rule.{iff}
 use Rattle.rules.proofs.Steps.{iff-both}
-use Rattle.levels.proofs.Levels.{one-shl}
+use Rattle.units.proofs.Shifts.{one-shl}
 use Rattle.stock.specs.Bits.{bitSet, withBit}
 
 abbrev pub bit : ℕ → ℕ → ℕ

@@ -1,7 +1,8 @@
 use Rattle.rules.proofs.Steps.{steps}
 use lib.Pow.{pow-pos}
 use Rattle.levels.specs.Level.{gpaFits}
-use Rattle.levels.proofs.Levels.{low-below, one-shl}
+use Rattle.units.proofs.Shifts.{one-shl}
+use Rattle.levels.proofs.Levels.{low-below}
 use borrow.Author.Needs.{needs}
 use Rattle.levels.proofs.gpa_fits.Statement.{statement}
 use Rattle.levels.proofs.gpa_fits.Tie as tie
