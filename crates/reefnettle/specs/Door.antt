@@ -1,4 +1,5 @@
 -- What a caller in C or Rust is given: the paper's number and values, with the tables and the gauge after them.
+use Prim.Native.Nat.{ℕ}
 use Rattle.units.specs.declared.address.Hpa.{Hpa}
 use Rattle.gauge.specs.declared.Gauge.{Gauge}
 use Rattle.ledger.specs.Tables.{Tables}
@@ -22,3 +23,7 @@ shown o = readOut (valuesOf (o .answer)) (o .tables) (o .gauge)
 
 unfoldable pub doorOf : Hpa → Tables → Gauge → Request → ReadOut
 doorOf base t g r = shown (askOf base t g (askFor r))
+
+-- It goes up whenever a struct, a number or the layout of a lent word changes so that a header and an archive no longer fit.
+abbrev pub version : ℕ
+version = 1

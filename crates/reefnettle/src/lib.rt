@@ -1,7 +1,7 @@
 // The door for callers in C and Rust: include/reefnettle.h says what it takes, gives and asks of them.
 ghost use mathlib.Core.Path.{_≡_};
 ghost use Rattle.ledger.specs.Tables.{lent};
-ghost use Rattle.reefnettle.specs.Door.{readOut, doorOf};
+ghost use Rattle.reefnettle.specs.Door.{readOut, doorOf, version};
 use calls::Values;
 use gauge::Gauge;
 use requests::Request;
@@ -23,4 +23,12 @@ pub extern "C" fn reefnettle_ask(
     let ask = requests::ask_of(r);
     let answer = entry::enter(base, frames, domains, stock, entries, g, ask);
     calls::values_of(answer)
+}
+
+// REEFNETTLE_VERSION of the header, for a caller to compare.
+#[no_mangle]
+pub extern "C" fn reefnettle_version() -> u64
+    ensures { λ v. ⌜ v ≡ version ⌝ }
+{
+    1
 }
