@@ -6,6 +6,9 @@
  * Two units are never mixed. An hpa is an address in bytes: the base, operands and answers have it. A frame is a number
  * in the window, from frame 0 on: the lent words have it. hpa = base + bytes 4096 times the frame's number.
  *
+ * Each unit is a struct of its own, so that no number is taken for another: write (reefnettle_key){32} in C and
+ * reefnettle_key{32} in C++.
+ *
  * An example, whole: link it with libreefnettle.a.
  *
  *     #include <stdio.h>
@@ -27,14 +30,22 @@
  *             .entries = entries, .entries_words = REEFNETTLE_ENTRIES_WORDS(4, 12),
  *             .gauge = &gauge,
  *         };
- *         reefnettle_hpa domain = reefnettle_hpa_of_frame(&model, 0);
- *         if (reefnettle_reset(&model).number != REEFNETTLE_ANSWER_ACCEPTED) return 1;
- *         printf("create: answer %d\n", (int)reefnettle_create(&model, domain, 32).number);
- *         printf("again: answer %d\n", (int)reefnettle_create(&model, domain, 33).number);
+ *         reefnettle_hpa domain = reefnettle_hpa_of_frame(&model, (reefnettle_frame){0});
+ *         if (!reefnettle_fits() || reefnettle_reset(&model).number != REEFNETTLE_ANSWER_ACCEPTED) return 1;
+ *         printf("create: answer %d\n", (int)reefnettle_create(&model, domain, (reefnettle_key){32}).number);
+ *         printf("again: answer %d\n", (int)reefnettle_create(&model, domain, (reefnettle_key){33}).number);
  *         return 0;
  *     }
  *
  * It prints "create: answer 0" and "again: answer 2".
+ *
+ * What the library is.
+ *   - For x86-64 alone, by the System V ABI. On another processor it links into programs for x86-64 only.
+ *   - It has no data of its own. Two threads may ask at once on two models, never on one.
+ *   - It allocates nothing, makes no system call, and needs one function of the C library: memset.
+ *   - A call takes at most bytes 4096 of stack.
+ *   - Every call but reset reads all words of `frames` and all entries of the blocks in use, for answer 13. Its time
+ *     grows in a straight line with these, whatever the call. Reset writes every word. docs/COST.md has figures.
  *
  * What the caller owes. All else is judged: any contents and any lengths may be lent, and answer 13 refuses what is out
  * of range.
@@ -54,6 +65,11 @@
 extern "C" {
 #endif
 
+/* What reefnettle_version answers in an archive that fits this header. The number goes up whenever a struct, a number
+ * or the layout of a lent word changes so that a header and an archive no longer fit. A new call alone doesn't move it:
+ * an archive that lacks the call answers REEFNETTLE_ANSWER_UNREADABLE. */
+#define REEFNETTLE_VERSION 1
+
 /* ---- Limits. Both ends belong to each range. ---- */
 
 #define REEFNETTLE_FRAME_BYTES 4096
@@ -68,6 +84,7 @@ extern "C" {
 #define REEFNETTLE_TABLES_MOST 64
 #define REEFNETTLE_TABLE_ENTRIES 512
 #define REEFNETTLE_CONTROL_PAGES 4
+#define REEFNETTLE_RECORD_WORDS 5
 #define REEFNETTLE_KEY_LEAST 32
 #define REEFNETTLE_KEY_MOST 47
 #define REEFNETTLE_LEVEL_MOST 3
@@ -76,7 +93,7 @@ extern "C" {
 /* ---- Lengths of the four arrays, for frames, domain records and Secure EPT tables of these numbers ---- */
 
 #define REEFNETTLE_FRAMES_WORDS(frames) ((size_t)(frames))
-#define REEFNETTLE_DOMAINS_WORDS(records) (5 * (size_t)(records))
+#define REEFNETTLE_DOMAINS_WORDS(records) (REEFNETTLE_RECORD_WORDS * (size_t)(records))
 #define REEFNETTLE_STOCK_WORDS(records, tables) (((size_t)(records) + (size_t)(tables) + 63) / 64)
 #define REEFNETTLE_ENTRIES_WORDS(records, tables) \
     (REEFNETTLE_TABLE_ENTRIES * ((size_t)(records) + (size_t)(tables)))
@@ -135,6 +152,26 @@ typedef struct {
     uint64_t bytes;
 } reefnettle_gpa;
 
+/* A frame's number in the window. */
+typedef struct {
+    uint64_t number;
+} reefnettle_frame;
+
+/* A key (HKID). */
+typedef struct {
+    uint64_t number;
+} reefnettle_key;
+
+/* A level of the Secure EPT: 0 for pages, 3 for the entries of a root. */
+typedef struct {
+    size_t number;
+} reefnettle_level;
+
+/* A block of entries 512: a table's or a root's. */
+typedef struct {
+    size_t number;
+} reefnettle_entries_block;
+
 /* Fill is the part of the frames that isn't NDA. A mark is bit for bit k divided by the frames, k from 0 to the frames;
  * the clear mark is at most the raise mark, and the raise mark is above zero. */
 typedef struct {
@@ -149,9 +186,9 @@ typedef struct {
     uint64_t call;         /* a REEFNETTLE_CALL_ number */
     reefnettle_hpa domain; /* of the domain's TDR */
     reefnettle_gpa gpa;
-    size_t level;
+    reefnettle_level level;
     reefnettle_hpa frame;
-    uint64_t key;
+    reefnettle_key key;
     double raise;
     double clear;
 } reefnettle_request;
@@ -162,7 +199,7 @@ typedef struct {
     uint64_t number;      /* a REEFNETTLE_ANSWER_ number */
     uint64_t kind;        /* a REEFNETTLE_TYPE_ number */
     reefnettle_hpa owner; /* bytes 0 if the frame has none */
-    size_t level;
+    reefnettle_level level;
     uint64_t state;       /* a REEFNETTLE_STATE_ number */
     reefnettle_hpa hpa;   /* bytes 0 if the entry is FREE */
 } reefnettle_answer;
@@ -233,7 +270,55 @@ enum {
     REEFNETTLE_STATE_PENDING_BLOCKED = 6
 };
 
-/* ---- The library's one function ---- */
+enum {
+    REEFNETTLE_LIFECYCLE_HKID_ASSIGNED = 0,
+    REEFNETTLE_LIFECYCLE_KEYS_CONFIGURED = 1,
+    REEFNETTLE_LIFECYCLE_BLOCKED = 2,
+    REEFNETTLE_LIFECYCLE_TEARDOWN = 3
+};
+
+enum {
+    REEFNETTLE_OP_STATE_UNINITIALIZED = 0,
+    REEFNETTLE_OP_STATE_INITIALIZED = 1,
+    REEFNETTLE_OP_STATE_RUNNABLE = 2
+};
+
+/* A sentence for an answer's number, without a full stop. */
+static inline const char *reefnettle_answer_text(uint64_t number)
+{
+    static const char *const texts[] = {
+        "accepted",
+        "an operand is out of rule: an hpa not on a frame or outside the window, a gpa too big or unaligned for its "
+        "level, a level, a key, or a mark of the gauge",
+        "the wrong frame: the domain's frame is no TDR, the frame isn't free where it must be, or a free frame is "
+        "to be reclaimed",
+        "the domain's lifecycle is wrong for the call",
+        "control pages: fewer than 4, or already 4 at addcx",
+        "the domain's op state is wrong for the call",
+        "the walk stopped above the level asked for",
+        "the entry's state is wrong for the call",
+        "not tracked: the domain's epoch hasn't moved on since the frame was blocked",
+        "pages remain: a TDR has children, or a table has an entry that isn't FREE",
+        "the key is taken: a domain before teardown has it",
+        "no unused record (create) or table (septadd) is left",
+        "the domain's epoch is at its limit",
+        "what was lent is out of range: a size, the base, a stored number or code, or a mark of the gauge",
+        "the lent tables contradict one another",
+        "unreadable: a script's line, or a number that names no call"
+    };
+    return number < sizeof texts / sizeof texts[0] ? texts[number] : "there is no such answer";
+}
+
+/* ---- The library's two functions ---- */
+
+/* The archive's number, to compare with REEFNETTLE_VERSION. */
+uint64_t reefnettle_version(void);
+
+/* Whether the archive that is linked fits this header. Ask once, before all else. */
+static inline bool reefnettle_fits(void)
+{
+    return reefnettle_version() == REEFNETTLE_VERSION;
+}
 
 /* Asks one call on what is lent. A call number that there isn't is refused before anything lent is looked at. */
 reefnettle_answer reefnettle_ask(reefnettle_hpa base,
@@ -259,12 +344,24 @@ typedef struct {
     reefnettle_gauge *gauge;
 } reefnettle_model;
 
-/* The one way from a frame's number to its hpa. */
-static inline reefnettle_hpa reefnettle_hpa_of_frame(const reefnettle_model *model, uint64_t frame)
+/* The one way from a frame's number to its hpa. Bytes 0, which every call refuses, if the window has no such frame. */
+static inline reefnettle_hpa reefnettle_hpa_of_frame(const reefnettle_model *model, reefnettle_frame frame)
 {
-    reefnettle_hpa hpa;
-    hpa.bytes = model->base.bytes + REEFNETTLE_FRAME_BYTES * frame;
+    reefnettle_hpa hpa = {0};
+    if (frame.number < model->frames_words)
+        hpa.bytes = model->base.bytes + REEFNETTLE_FRAME_BYTES * frame.number;
     return hpa;
+}
+
+/* The one way back. False, with `frame` as it was, if the hpa isn't where a frame begins or lies outside the window. */
+static inline bool reefnettle_frame_of_hpa(const reefnettle_model *model, reefnettle_hpa hpa, reefnettle_frame *frame)
+{
+    const uint64_t bytes = hpa.bytes - model->base.bytes;
+    if (hpa.bytes < model->base.bytes || bytes % REEFNETTLE_FRAME_BYTES != 0 ||
+        bytes / REEFNETTLE_FRAME_BYTES >= model->frames_words)
+        return false;
+    frame->number = bytes / REEFNETTLE_FRAME_BYTES;
+    return true;
 }
 
 /* A request whose operands are all 0: each call then sets those that it has. */
@@ -274,9 +371,9 @@ static inline reefnettle_request reefnettle_request_of(uint64_t call)
     request.call = call;
     request.domain.bytes = 0;
     request.gpa.bytes = 0;
-    request.level = 0;
+    request.level.number = 0;
     request.frame.bytes = 0;
-    request.key = 0;
+    request.key.number = 0;
     request.raise = 0;
     request.clear = 0;
     return request;
@@ -309,7 +406,8 @@ static inline reefnettle_answer reefnettle_set_marks(const reefnettle_model *mod
 }
 
 /* F, which is NDA, becomes the TDR of a new domain with a key that no domain before teardown has. */
-static inline reefnettle_answer reefnettle_create(const reefnettle_model *model, reefnettle_hpa frame, uint64_t key)
+static inline reefnettle_answer reefnettle_create(const reefnettle_model *model, reefnettle_hpa frame,
+                                                  reefnettle_key key)
 {
     reefnettle_request request = reefnettle_request_of(REEFNETTLE_CALL_CREATE);
     request.frame = frame;
@@ -350,7 +448,7 @@ static inline reefnettle_answer reefnettle_init(const reefnettle_model *model, r
 
 /* F, which is NDA, becomes a Secure EPT table of the live D; the FREE entry at level 1 to 3 becomes NL_MAPPED. */
 static inline reefnettle_answer reefnettle_septadd(const reefnettle_model *model, reefnettle_hpa domain,
-                                                   reefnettle_gpa gpa, size_t level, reefnettle_hpa frame)
+                                                   reefnettle_gpa gpa, reefnettle_level level, reefnettle_hpa frame)
 {
     reefnettle_request request = reefnettle_request_of(REEFNETTLE_CALL_SEPTADD);
     request.domain = domain;
@@ -393,7 +491,7 @@ static inline reefnettle_answer reefnettle_pageaug(const reefnettle_model *model
 
 /* Calls on an entry share this. */
 static inline reefnettle_answer reefnettle_ask_entry(const reefnettle_model *model, uint64_t call,
-                                                     reefnettle_hpa domain, reefnettle_gpa gpa, size_t level)
+                                                     reefnettle_hpa domain, reefnettle_gpa gpa, reefnettle_level level)
 {
     reefnettle_request request = reefnettle_request_of(call);
     request.domain = domain;
@@ -404,7 +502,7 @@ static inline reefnettle_answer reefnettle_ask_entry(const reefnettle_model *mod
 
 /* Blocks an entry in state 1, 2 or 3, at level 0 to 3; its frame notes the domain's epoch. */
 static inline reefnettle_answer reefnettle_block(const reefnettle_model *model, reefnettle_hpa domain,
-                                                 reefnettle_gpa gpa, size_t level)
+                                                 reefnettle_gpa gpa, reefnettle_level level)
 {
     return reefnettle_ask_entry(model, REEFNETTLE_CALL_BLOCK, domain, gpa, level);
 }
@@ -417,7 +515,7 @@ static inline reefnettle_answer reefnettle_track(const reefnettle_model *model, 
 
 /* Unblocks a tracked entry in state 4, 5 or 6, at level 0 to 3. */
 static inline reefnettle_answer reefnettle_unblock(const reefnettle_model *model, reefnettle_hpa domain,
-                                                   reefnettle_gpa gpa, size_t level)
+                                                   reefnettle_gpa gpa, reefnettle_level level)
 {
     return reefnettle_ask_entry(model, REEFNETTLE_CALL_UNBLOCK, domain, gpa, level);
 }
@@ -426,12 +524,13 @@ static inline reefnettle_answer reefnettle_unblock(const reefnettle_model *model
 static inline reefnettle_answer reefnettle_pageremove(const reefnettle_model *model, reefnettle_hpa domain,
                                                       reefnettle_gpa gpa)
 {
-    return reefnettle_ask_entry(model, REEFNETTLE_CALL_PAGEREMOVE, domain, gpa, 0);
+    const reefnettle_level page = {0};
+    return reefnettle_ask_entry(model, REEFNETTLE_CALL_PAGEREMOVE, domain, gpa, page);
 }
 
 /* Frees a blocked, tracked and empty table, at level 1 to 3. */
 static inline reefnettle_answer reefnettle_septremove(const reefnettle_model *model, reefnettle_hpa domain,
-                                                      reefnettle_gpa gpa, size_t level)
+                                                      reefnettle_gpa gpa, reefnettle_level level)
 {
     return reefnettle_ask_entry(model, REEFNETTLE_CALL_SEPTREMOVE, domain, gpa, level);
 }
@@ -471,9 +570,157 @@ static inline reefnettle_answer reefnettle_readpage(const reefnettle_model *mode
 
 /* Reads the level, state and hpa of an entry of the live D, at level 0 to 3. It too moves the gauge. */
 static inline reefnettle_answer reefnettle_readentry(const reefnettle_model *model, reefnettle_hpa domain,
-                                                     reefnettle_gpa gpa, size_t level)
+                                                     reefnettle_gpa gpa, reefnettle_level level)
 {
     return reefnettle_ask_entry(model, REEFNETTLE_CALL_READENTRY, domain, gpa, level);
+}
+
+/* ---- The lent words, to fill the tables from a running machine and to read them ----
+ *
+ * A pack function is exact for fields that fit their bits, and cuts none: where one doesn't fit, all bits of the word
+ * are 1, and answer 13 refuses that wherever it looks at the word. What fits its bits may still be out of range, and
+ * answer 13 judges that too. Unpack takes any word apart, and packing the fields again gives the same word.
+ *
+ * Name the fields that you set (.kind = ..), for a later version may add some. A field that isn't set is 0. */
+
+#define REEFNETTLE_WORD_REFUSED UINT64_MAX
+#define REEFNETTLE_ENTRY_REFUSED UINT32_MAX
+
+/* A word of `frames`. */
+typedef struct {
+    uint64_t kind;          /* a REEFNETTLE_TYPE_ number */
+    reefnettle_frame owner; /* the owning TDR's, for TDCX, EPT and REG; else 0 */
+    uint64_t number;        /* the record of a TDR, the table of an EPT; else 0 */
+    uint64_t epoch;         /* at which it was last blocked, for EPT and REG; else 0 */
+} reefnettle_frame_fields;
+
+static inline uint64_t reefnettle_pack_frame(reefnettle_frame_fields fields)
+{
+    if (fields.kind >> 3 || fields.owner.number >> 14 || fields.number >> 8 || fields.epoch >> 39)
+        return REEFNETTLE_WORD_REFUSED;
+    return fields.kind | fields.owner.number << 3 | fields.number << 17 | fields.epoch << 25;
+}
+
+static inline reefnettle_frame_fields reefnettle_unpack_frame(uint64_t word)
+{
+    reefnettle_frame_fields fields;
+    fields.kind = word % (1 << 3);
+    fields.owner.number = (word >> 3) % (1 << 14);
+    fields.number = (word >> 17) % (1 << 8);
+    fields.epoch = word >> 25;
+    return fields;
+}
+
+/* The five words of a record of `domains`. */
+typedef struct {
+    reefnettle_key key;
+    uint64_t lifecycle;    /* a REEFNETTLE_LIFECYCLE_ number */
+    uint64_t op_state;     /* a REEFNETTLE_OP_STATE_ number */
+    uint64_t pages_listed; /* so many of the control pages below; the rest are 0 */
+    uint64_t children;     /* frames that the domain owns, its TDR left out */
+    uint64_t epoch;
+    reefnettle_frame control_pages[REEFNETTLE_CONTROL_PAGES];
+} reefnettle_record_fields;
+
+/* The first of a record's words. */
+static inline uint64_t reefnettle_pack_scalars(reefnettle_record_fields fields)
+{
+    if (fields.key.number >> 7 || fields.lifecycle >> 3 || fields.op_state >> 2 || fields.pages_listed >> 3 ||
+        fields.children >> 15 || fields.epoch >> 34)
+        return REEFNETTLE_WORD_REFUSED;
+    return fields.key.number | fields.lifecycle << 7 | fields.op_state << 10 | fields.pages_listed << 12 |
+           fields.children << 15 | fields.epoch << 30;
+}
+
+/* Writes words 5, from `words` on: &domains[5 * record]. A control page is a whole word, so any number fits. */
+static inline void reefnettle_pack_record(reefnettle_record_fields fields, uint64_t *words)
+{
+    int page;
+    words[0] = reefnettle_pack_scalars(fields);
+    for (page = 0; page < REEFNETTLE_CONTROL_PAGES; page++)
+        words[1 + page] = fields.control_pages[page].number;
+}
+
+/* Reads words 5, from `words` on. */
+static inline reefnettle_record_fields reefnettle_unpack_record(const uint64_t *words)
+{
+    reefnettle_record_fields fields;
+    int page;
+    fields.key.number = words[0] % (1 << 7);
+    fields.lifecycle = (words[0] >> 7) % (1 << 3);
+    fields.op_state = (words[0] >> 10) % (1 << 2);
+    fields.pages_listed = (words[0] >> 12) % (1 << 3);
+    fields.children = (words[0] >> 15) % (1 << 15);
+    fields.epoch = words[0] >> 30;
+    for (page = 0; page < REEFNETTLE_CONTROL_PAGES; page++)
+        fields.control_pages[page].number = words[1 + page];
+    return fields;
+}
+
+/* A word of `entries`. */
+typedef struct {
+    uint64_t state;         /* a REEFNETTLE_STATE_ number */
+    reefnettle_frame frame; /* 0 for a FREE entry */
+} reefnettle_entry_fields;
+
+static inline uint32_t reefnettle_pack_entry(reefnettle_entry_fields fields)
+{
+    if (fields.state >> 3 || fields.frame.number >> 29)
+        return REEFNETTLE_ENTRY_REFUSED;
+    return (uint32_t)(fields.state | fields.frame.number << 3);
+}
+
+static inline reefnettle_entry_fields reefnettle_unpack_entry(uint32_t word)
+{
+    reefnettle_entry_fields fields;
+    fields.state = word % (1 << 3);
+    fields.frame.number = word >> 3;
+    return fields;
+}
+
+/* How many records and tables the lengths come to; tables 0 where there are fewer blocks than records. */
+static inline size_t reefnettle_records(const reefnettle_model *model)
+{
+    return model->domains_words / REEFNETTLE_RECORD_WORDS;
+}
+
+static inline size_t reefnettle_tables(const reefnettle_model *model)
+{
+    const size_t blocks = model->entries_words / REEFNETTLE_TABLE_ENTRIES, records = reefnettle_records(model);
+    return blocks < records ? 0 : blocks - records;
+}
+
+/* The block of a table, and that of a record's root. */
+static inline reefnettle_entries_block reefnettle_table_block(size_t table)
+{
+    const reefnettle_entries_block block = {table};
+    return block;
+}
+
+static inline reefnettle_entries_block reefnettle_root_block(const reefnettle_model *model, size_t record)
+{
+    const reefnettle_entries_block block = {reefnettle_tables(model) + record};
+    return block;
+}
+
+/* Which word of `entries` is a block's entry for a gpa, at level 0 to 3. */
+static inline size_t reefnettle_entry_place(reefnettle_entries_block block, reefnettle_gpa gpa, reefnettle_level level)
+{
+    const uint64_t entry = (gpa.bytes >> (12 + 9 * level.number)) % REEFNETTLE_TABLE_ENTRIES;
+    return REEFNETTLE_TABLE_ENTRIES * block.number + (size_t)entry;
+}
+
+/* The bit of `stock` that says whether a block is in use. The caller owes a block that is there, here and below. */
+static inline bool reefnettle_in_use(const reefnettle_model *model, reefnettle_entries_block block)
+{
+    return (model->stock[block.number / 64] >> block.number % 64 & 1) != 0;
+}
+
+static inline void reefnettle_set_in_use(const reefnettle_model *model, reefnettle_entries_block block, bool in_use)
+{
+    const uint64_t bit = UINT64_C(1) << block.number % 64;
+    uint64_t *word = &model->stock[block.number / 64];
+    *word = in_use ? *word | bit : *word & ~bit;
 }
 
 #ifdef __cplusplus

@@ -1,0 +1,167 @@
+/* What a call costs: its time on tables of three sizes, with no block in use and with all, and the most stack that any
+ * call takes. cost CALLS says over how many calls each time is taken. It fails if a call takes more stack than the header
+ * says. */
+#include <stdio.h>
+#include <stdlib.h>
+#include <string.h>
+#include <time.h>
+
+#include "reefnettle.h"
+
+enum { STACK_BYTES = 1 << 16, STACK_BYTES_PROMISED = 4096, PAINT = 0xa5 };
+
+static uint64_t frames[REEFNETTLE_FRAMES_WORDS(REEFNETTLE_FRAMES_MOST)];
+static uint64_t domains[REEFNETTLE_DOMAINS_WORDS(REEFNETTLE_RECORDS_MOST)];
+static uint64_t stock[REEFNETTLE_STOCK_WORDS(REEFNETTLE_RECORDS_MOST, REEFNETTLE_TABLES_MOST)];
+static uint32_t entries[REEFNETTLE_ENTRIES_WORDS(REEFNETTLE_RECORDS_MOST, REEFNETTLE_TABLES_MOST)];
+static reefnettle_gauge gauge;
+
+static reefnettle_model lend(size_t window_frames, size_t records, size_t tables)
+{
+    return (reefnettle_model){
+        .base = {REEFNETTLE_BASE_BYTES_LEAST},
+        .frames = frames,
+        .frames_words = REEFNETTLE_FRAMES_WORDS(window_frames),
+        .domains = domains,
+        .domains_words = REEFNETTLE_DOMAINS_WORDS(records),
+        .stock = stock,
+        .stock_words = REEFNETTLE_STOCK_WORDS(records, tables),
+        .entries = entries,
+        .entries_words = REEFNETTLE_ENTRIES_WORDS(records, tables),
+        .gauge = &gauge,
+    };
+}
+
+/* Every table in use and empty, every record in use. */
+static void use_all(const reefnettle_model *model)
+{
+    const reefnettle_record_fields fresh = {.key = {REEFNETTLE_KEY_LEAST}, .epoch = 1};
+    for (size_t table = 0; table < reefnettle_tables(model); table++)
+        reefnettle_set_in_use(model, reefnettle_table_block(table), true);
+    for (size_t record = 0; record < reefnettle_records(model); record++) {
+        reefnettle_set_in_use(model, reefnettle_root_block(model, record), true);
+        reefnettle_pack_record(fresh, &domains[REEFNETTLE_RECORD_WORDS * record]);
+    }
+}
+
+/* Microseconds of one readpage, which writes no table. */
+static double time_call(const reefnettle_model *model, long calls)
+{
+    const clock_t begin = clock();
+    for (long call = 0; call < calls; call++)
+        if (reefnettle_readpage(model, model->base).number != REEFNETTLE_ANSWER_ACCEPTED)
+            exit(1);
+    return 1e6 * (double)(clock() - begin) / CLOCKS_PER_SEC / (double)calls;
+}
+
+static void time_sizes(size_t window_frames, size_t records, size_t tables, long calls)
+{
+    const reefnettle_model model = lend(window_frames, records, tables);
+    if (reefnettle_reset(&model).number != REEFNETTLE_ANSWER_ACCEPTED)
+        exit(1);
+    printf("frames %zu, records %zu, tables %zu: microseconds %.2f with no block in use", window_frames, records, tables,
+           time_call(&model, calls));
+    use_all(&model);
+    printf(", microseconds %.2f with all\n", time_call(&model, calls));
+}
+
+#define HPA(frame) {REEFNETTLE_BASE_BYTES_LEAST + REEFNETTLE_FRAME_BYTES * UINT64_C(frame)}
+#define TDR .domain = HPA(0)
+
+/* A domain's life, with every call in it and all accepted. Its control pages are frames 1 to 4, its tables frames 5 to 7,
+ * its pages frames 8 and 9. */
+static const reefnettle_request life[] = {
+    {.call = REEFNETTLE_CALL_RESET},
+    {.call = REEFNETTLE_CALL_SET_MARKS, .raise = 0.75, .clear = 0.5},
+    {.call = REEFNETTLE_CALL_CREATE, .frame = HPA(0), .key = {REEFNETTLE_KEY_LEAST}},
+    {.call = REEFNETTLE_CALL_KEYCONFIG, TDR},
+    {.call = REEFNETTLE_CALL_ADDCX, TDR, .frame = HPA(1)},
+    {.call = REEFNETTLE_CALL_ADDCX, TDR, .frame = HPA(2)},
+    {.call = REEFNETTLE_CALL_ADDCX, TDR, .frame = HPA(3)},
+    {.call = REEFNETTLE_CALL_ADDCX, TDR, .frame = HPA(4)},
+    {.call = REEFNETTLE_CALL_INIT, TDR},
+    {.call = REEFNETTLE_CALL_SEPTADD, TDR, .level = {3}, .frame = HPA(5)},
+    {.call = REEFNETTLE_CALL_SEPTADD, TDR, .level = {2}, .frame = HPA(6)},
+    {.call = REEFNETTLE_CALL_SEPTADD, TDR, .level = {1}, .frame = HPA(7)},
+    {.call = REEFNETTLE_CALL_PAGEADD, TDR, .frame = HPA(8)},
+    {.call = REEFNETTLE_CALL_FINALIZE, TDR},
+    {.call = REEFNETTLE_CALL_PAGEAUG, TDR, .gpa = {REEFNETTLE_FRAME_BYTES}, .frame = HPA(9)},
+    {.call = REEFNETTLE_CALL_READPAGE, .frame = HPA(9)},
+    {.call = REEFNETTLE_CALL_READENTRY, TDR},
+    {.call = REEFNETTLE_CALL_BLOCK, TDR},
+    {.call = REEFNETTLE_CALL_TRACK, TDR},
+    {.call = REEFNETTLE_CALL_UNBLOCK, TDR},
+    {.call = REEFNETTLE_CALL_BLOCK, TDR},
+    {.call = REEFNETTLE_CALL_BLOCK, TDR, .gpa = {REEFNETTLE_FRAME_BYTES}},
+    {.call = REEFNETTLE_CALL_TRACK, TDR},
+    {.call = REEFNETTLE_CALL_PAGEREMOVE, TDR},
+    {.call = REEFNETTLE_CALL_PAGEREMOVE, TDR, .gpa = {REEFNETTLE_FRAME_BYTES}},
+    {.call = REEFNETTLE_CALL_BLOCK, TDR, .level = {1}},
+    {.call = REEFNETTLE_CALL_TRACK, TDR},
+    {.call = REEFNETTLE_CALL_SEPTREMOVE, TDR, .level = {1}},
+    {.call = REEFNETTLE_CALL_FLUSHDONE, TDR},
+    {.call = REEFNETTLE_CALL_KEYFREE, TDR},
+    {.call = REEFNETTLE_CALL_RECLAIM, .frame = HPA(6)},
+};
+
+static _Alignas(16) unsigned char stack[STACK_BYTES];
+static reefnettle_model asked;
+static reefnettle_request request;
+static reefnettle_answer answer;
+
+static void ask(void)
+{
+    answer = reefnettle_ask_model(&asked, request);
+}
+
+static void ask_on_own_stack(void)
+{
+    __asm__ volatile("movq %%rsp, %%rbx\n\tmovq %0, %%rsp\n\tcall *%1\n\tmovq %%rbx, %%rsp"
+                     :
+                     : "r"(stack + sizeof stack), "r"(ask)
+                     : "rax", "rbx", "rcx", "rdx", "rsi", "rdi", "r8", "r9", "r10", "r11", "cc", "memory", "xmm0", "xmm1",
+                       "xmm2", "xmm3", "xmm4", "xmm5", "xmm6", "xmm7", "xmm8", "xmm9", "xmm10", "xmm11", "xmm12", "xmm13",
+                       "xmm14", "xmm15");
+}
+
+/* How far down a painted stack the paint is gone after one call. The frame of ask counts too. */
+static size_t stack_bytes_of(reefnettle_request next)
+{
+    size_t untouched = 0;
+    request = next;
+    memset(stack, PAINT, sizeof stack);
+    ask_on_own_stack();
+    while (untouched < sizeof stack && stack[untouched] == PAINT)
+        untouched++;
+    if (answer.number != REEFNETTLE_ANSWER_ACCEPTED)
+        exit(1);
+    return sizeof stack - untouched;
+}
+
+/* The first reset goes unmeasured: it may bind memset, which takes stack of its own. */
+static size_t most_stack_bytes(void)
+{
+    size_t most = 0;
+    asked = lend(REEFNETTLE_FRAMES_LEAST, REEFNETTLE_RECORDS_LEAST, REEFNETTLE_TABLES_LEAST);
+    reefnettle_reset(&asked);
+    for (size_t step = 0; step < sizeof life / sizeof life[0]; step++) {
+        const size_t bytes = stack_bytes_of(life[step]);
+        most = bytes > most ? bytes : most;
+    }
+    return most;
+}
+
+int main(int words, char **word)
+{
+    const long calls = words == 2 ? atol(word[1]) : 0;
+    if (calls < 1) {
+        fprintf(stderr, "usage: cost CALLS, at least calls 1 for each time\n");
+        return 2;
+    }
+    time_sizes(512, 1, 4, calls);
+    time_sizes(1024, 4, 12, calls);
+    time_sizes(4096, 16, 64, calls);
+    const size_t stack_bytes = most_stack_bytes();
+    printf("stack of one call: bytes %zu at most\n", stack_bytes);
+    return stack_bytes <= STACK_BYTES_PROMISED ? 0 : 1;
+}
