@@ -356,9 +356,8 @@ static inline reefnettle_hpa reefnettle_hpa_of_frame(const reefnettle_model *mod
 /* The one way back. False, with `frame` as it was, if the hpa isn't where a frame begins or lies outside the window. */
 static inline bool reefnettle_frame_of_hpa(const reefnettle_model *model, reefnettle_hpa hpa, reefnettle_frame *frame)
 {
-    const uint64_t bytes = hpa.bytes - model->base.bytes;
-    if (hpa.bytes < model->base.bytes || bytes % REEFNETTLE_FRAME_BYTES != 0 ||
-        bytes / REEFNETTLE_FRAME_BYTES >= model->frames_words)
+    const uint64_t bytes = hpa.bytes - model->base.bytes; /* below the base it wraps, and is beyond every frame */
+    if (bytes % REEFNETTLE_FRAME_BYTES != 0 || bytes / REEFNETTLE_FRAME_BYTES >= model->frames_words)
         return false;
     frame->number = bytes / REEFNETTLE_FRAME_BYTES;
     return true;

@@ -7,6 +7,9 @@
 BYTES(size_t, 8);
 BYTES(reefnettle_hpa, 8);
 BYTES(reefnettle_gpa, 8);
+BYTES(reefnettle_frame, 8);
+BYTES(reefnettle_key, 8);
+BYTES(reefnettle_level, 8);
 
 BYTES(reefnettle_gauge, 32);
 AT(reefnettle_gauge, raise, 0);
