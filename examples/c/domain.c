@@ -85,8 +85,12 @@ static bool show_refusal(reefnettle_hpa domain)
 int main(void)
 {
     const reefnettle_hpa domain = hpa_of(0);
+    if (!reefnettle_fits()) {
+        fprintf(stderr, "header of version %d, archive of version %" PRIu64 "\n", REEFNETTLE_VERSION, reefnettle_version());
+        return 1;
+    }
     printf("lent: bytes %zu\n", REEFNETTLE_LENT_BYTES(FRAMES, RECORDS, TABLES));
-    bool as_planned = reefnettle_fits() && show("reset", reefnettle_reset(&model)) &&
+    bool as_planned = show("reset", reefnettle_reset(&model)) &&
                       show("set_marks", reefnettle_set_marks(&model, 0.75, 0.5)) &&
                       build(domain) && add_pages(domain) && read_back(domain) && show_refusal(domain);
     printf("used: frames %.0f, lamp %d\n", gauge.fill * FRAMES, gauge.lamp);

@@ -331,5 +331,7 @@ int main(void)
     try_frame_of_hpa();
     try_filled_tables();
     try_refused_words();
+    if (failures == 0)
+        puts("lent words: all as expected");
     return failures == 0 ? 0 : 1;
 }
