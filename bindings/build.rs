@@ -1,7 +1,7 @@
 //! Links the proved library, `libreefnettle.a`.
 //!
 //! What it prints has one colon, and what is wrong goes to standard error: older
-//! cargos know no other way.
+//! cargos know no other way. What is `pub` is tried by `tests/build.rs`.
 
 use std::env;
 use std::ffi::OsString;
@@ -23,14 +23,14 @@ fn set_by_cargo(variable: &str) -> OsString {
 
 /// The archive in the folder that the environment names, else in the one that
 /// `rt staticlib` writes to. A relative name is relative to this package.
-fn archive(named: Option<OsString>) -> PathBuf {
+pub fn archive(named: Option<OsString>) -> PathBuf {
     named
         .map_or_else(|| PathBuf::from(FOLDER), PathBuf::from)
         .join(ARCHIVE)
 }
 
 /// Why the archive can't be linked for a target, if it can't.
-fn unfit(arch: &str, os: &str) -> Option<String> {
+pub fn unfit(arch: &str, os: &str) -> Option<String> {
     if (arch, os) == ("x86_64", "linux") {
         return None;
     }
