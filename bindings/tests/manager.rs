@@ -10,6 +10,7 @@ mod manager;
 use std::env;
 use std::fs::OpenOptions;
 use std::io::{self, Write};
+use std::path::{Path, PathBuf};
 use std::process::{Command, Output, Stdio};
 
 use manager::{conclude, manage, Answer, Complaint, Metal, StandIn};
@@ -18,8 +19,9 @@ use reefnettle::{Call, FrameType, Key, Model, Page, Parts, Record, Reply, Sizes,
 /// The manager, as a program. A whole `cargo test` builds the examples first, in
 /// the folder beside the tests'; `tools/x86` runs it on any processor.
 fn program() -> Command {
-    let test = env::current_exe().unwrap();
-    let profile = test.parent().and_then(|folder| folder.parent()).unwrap();
+    // Under an emulator, `current_exe` is another's.
+    let test = PathBuf::from(env::args_os().next().unwrap());
+    let profile = test.parent().and_then(Path::parent).unwrap();
     let mut command = Command::new("../tools/x86");
     command.arg(profile.join("examples").join("manager"));
     command
