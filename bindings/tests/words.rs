@@ -180,6 +180,29 @@ fn the_words_of_the_example_are_read_with_types() -> Result<(), Refusal> {
 }
 
 #[test]
+fn one_bit_of_the_stock_moves_at_a_time() -> Result<(), Refusal> {
+    let mut parts = Model::fresh(Window::BASE_LEAST, Sizes::MOST)?.into_parts();
+    parts.stock = vec![0b110, u64::MAX >> 48];
+    for _again in 0..2 {
+        parts.set_table_in_use(Table(0), true)?;
+        parts.set_table_in_use(Table(1), false)?;
+        parts.set_table_in_use(Table(63), true)?;
+        parts.set_record_in_use(Record(0), false)?;
+        parts.set_record_in_use(Record(15), true)?;
+        assert_eq!(parts.stock, [1 << 63 | 0b101, 0xfffe]);
+    }
+    Ok(())
+}
+
+#[test]
+fn each_level_has_its_nine_bits_of_an_address() {
+    let gpa = Gpa(511 << 39 | 2 << 30 | 3 << 21 | 4 << 12 | 4095);
+    let index = |level| gpa.index(Level(level));
+    let indexes = [Some(4), Some(3), Some(2), Some(511), None, None];
+    assert_eq!([0, 1, 2, 3, 4, usize::MAX].map(index), indexes);
+}
+
+#[test]
 fn words_written_with_types_are_those_that_calls_leave() -> Result<(), Refusal> {
     let mut model = Model::fresh(Window::BASE_LEAST, Sizes::PROGRAM)?;
     let window = model.window();
