@@ -7,8 +7,9 @@
 //! ```
 //!
 //! The plan is a script of one call a line, from the file PLAN or from standard
-//! input. Here a fresh machine stands in for metal: a model of its own. Once metal is touched, standard output has a line for each call of the
-//! plan: the line's number, what became of it, and the call as the script has it.
+//! input. A fresh machine stands in for metal here: a model of its own. Once metal
+//! is touched, standard output has a line for each call of the plan: the line's
+//! number, what became of it, and the call as the script has it.
 //! What became of it is
 //!
 //! * `done`: metal answered as the model;
@@ -20,7 +21,7 @@
 //! |---|---|
 //! | 0 | all is done |
 //! | 1 | a line is unreadable, or the model refuses it; no metal was touched |
-//! | 2 | the plan or metal's tables can't be read, or the tables are out of range; no metal was touched |
+//! | 2 | the plan or the tables can't be read, or are out of range; no metal was touched |
 //! | 3 | metal answered otherwise than the model |
 //! | 4 | metal gave no answer |
 //! | 5 | standard output can't be written; standard error has what was done |

@@ -28,6 +28,16 @@
 //! A call, a reply, a type and a state are displayed by the paper's words, a call
 //! as its line of a script.
 //!
+//! Later versions add calls, refusals, types and fields. What may grow is
+//! `#[non_exhaustive]`, so that a match has a last arm for what it doesn't know:
+//!
+//! ```compile_fail,E0004
+//! # use reefnettle::OpState;
+//! match OpState::Runnable {
+//!     OpState::Uninitialized | OpState::Initialized | OpState::Runnable => {}
+//! }
+//! ```
+//!
 //! The archive is looked for in `target/staticlib` of the repository, where
 //! `rt staticlib reefnettle` writes it, or in the folder that the environment
 //! variable `REEFNETTLE_LIB_DIR` names. It is for Linux on x86-64. It has no data

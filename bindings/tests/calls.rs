@@ -180,6 +180,23 @@ fn operands_keep_to_the_limits() {
 }
 
 #[test]
+fn threads_ask_at_once_each_its_own_model() {
+    let threads = [Key(32), Key(33)].map(|key| {
+        std::thread::spawn(move || {
+            let mut model = fresh();
+            for _ in 0..100 {
+                model.create(BASE, key).unwrap();
+                model.reset().unwrap();
+            }
+            model
+        })
+    });
+    for thread in threads {
+        assert_eq!(thread.join().unwrap(), fresh());
+    }
+}
+
+#[test]
 fn any_lengths_may_be_lent() {
     let empty = Parts {
         base: BASE,
