@@ -113,6 +113,8 @@ impl Display for Call {
 /// The name of a call and its operands, as its line has them.
 fn line_of(call: Call) -> (&'static str, Vec<Operand>) {
     use Operand::{Clear, Gpa, Hpa, Key, Level, Raise};
+    let page = |name, domain, gpa, frame| (name, vec![Hpa(domain), Gpa(gpa), Hpa(frame)]);
+    let entry = |name, domain, gpa, level| (name, vec![Hpa(domain), Gpa(gpa), Level(level)]);
     match call {
         Call::Reset => ("reset", vec![]),
         Call::SetMarks { raise, clear } => ("marks", vec![Raise(raise), Clear(clear)]),
@@ -125,33 +127,24 @@ fn line_of(call: Call) -> (&'static str, Vec<Operand>) {
             gpa,
             level,
             frame,
-        } => (
-            "septadd",
-            vec![Hpa(domain), Gpa(gpa), Level(level), Hpa(frame)],
-        ),
-        Call::PageAdd { domain, gpa, frame } => {
-            ("pageadd", vec![Hpa(domain), Gpa(gpa), Hpa(frame)])
+        } => {
+            let (name, mut operands) = entry("septadd", domain, gpa, level);
+            operands.push(Hpa(frame));
+            (name, operands)
         }
+        Call::PageAdd { domain, gpa, frame } => page("pageadd", domain, gpa, frame),
         Call::Finalize { domain } => ("finalize", vec![Hpa(domain)]),
-        Call::PageAug { domain, gpa, frame } => {
-            ("pageaug", vec![Hpa(domain), Gpa(gpa), Hpa(frame)])
-        }
-        Call::Block { domain, gpa, level } => ("block", vec![Hpa(domain), Gpa(gpa), Level(level)]),
+        Call::PageAug { domain, gpa, frame } => page("pageaug", domain, gpa, frame),
+        Call::Block { domain, gpa, level } => entry("block", domain, gpa, level),
         Call::Track { domain } => ("track", vec![Hpa(domain)]),
-        Call::Unblock { domain, gpa, level } => {
-            ("unblock", vec![Hpa(domain), Gpa(gpa), Level(level)])
-        }
+        Call::Unblock { domain, gpa, level } => entry("unblock", domain, gpa, level),
         Call::PageRemove { domain, gpa } => ("pageremove", vec![Hpa(domain), Gpa(gpa)]),
-        Call::SeptRemove { domain, gpa, level } => {
-            ("septremove", vec![Hpa(domain), Gpa(gpa), Level(level)])
-        }
+        Call::SeptRemove { domain, gpa, level } => entry("septremove", domain, gpa, level),
         Call::FlushDone { domain } => ("flushdone", vec![Hpa(domain)]),
         Call::KeyFree { domain } => ("keyfree", vec![Hpa(domain)]),
         Call::Reclaim { frame } => ("reclaim", vec![Hpa(frame)]),
         Call::ReadPage { frame } => ("readpage", vec![Hpa(frame)]),
-        Call::ReadEntry { domain, gpa, level } => {
-            ("readentry", vec![Hpa(domain), Gpa(gpa), Level(level)])
-        }
+        Call::ReadEntry { domain, gpa, level } => entry("readentry", domain, gpa, level),
     }
 }
 
