@@ -4,73 +4,8 @@ use std::error::Error;
 use std::fmt::{self, Display, Formatter};
 
 use crate::raw;
+use crate::states::{EntryState, FrameType};
 use crate::units::{Hpa, Level};
-
-/// What a frame is.
-#[derive(Clone, Copy, Debug, PartialEq, Eq, Hash)]
-pub enum FrameType {
-    /// Type 0: free.
-    Nda,
-    /// Type 1: root page of a domain.
-    Tdr,
-    /// Type 2: control page of a domain.
-    Tdcx,
-    /// Type 3: Secure EPT table.
-    Ept,
-    /// Type 4: page of a guest's memory.
-    Reg,
-}
-
-impl FrameType {
-    const ALL: [FrameType; 5] = [
-        FrameType::Nda,
-        FrameType::Tdr,
-        FrameType::Tdcx,
-        FrameType::Ept,
-        FrameType::Reg,
-    ];
-
-    /// The paper's number for this type.
-    pub fn number(self) -> u64 {
-        self as u64
-    }
-}
-
-/// What an entry of a Secure EPT table says of its frame.
-#[derive(Clone, Copy, Debug, PartialEq, Eq, Hash)]
-pub enum EntryState {
-    /// State 0: it names no frame.
-    Free,
-    /// State 1: it leads to a table.
-    NlMapped,
-    /// State 2: it maps a page.
-    Mapped,
-    /// State 3: it maps a page that the guest hasn't accepted yet.
-    Pending,
-    /// State 4: NL_MAPPED, blocked.
-    NlBlocked,
-    /// State 5: MAPPED, blocked.
-    Blocked,
-    /// State 6: PENDING, blocked.
-    PendingBlocked,
-}
-
-impl EntryState {
-    const ALL: [EntryState; 7] = [
-        EntryState::Free,
-        EntryState::NlMapped,
-        EntryState::Mapped,
-        EntryState::Pending,
-        EntryState::NlBlocked,
-        EntryState::Blocked,
-        EntryState::PendingBlocked,
-    ];
-
-    /// The paper's number for this state.
-    pub fn number(self) -> u64 {
-        self as u64
-    }
-}
 
 /// What an accepted readpage reads.
 #[derive(Clone, Copy, Debug, PartialEq, Eq, Hash)]
@@ -92,7 +27,16 @@ pub struct Entry {
     pub hpa: Option<Hpa>,
 }
 
-/// What any accepted call answers.
+/// What any accepted call answers. It is displayed as a script's answer is, with
+/// single tabs.
+///
+/// ```
+/// use reefnettle::{FrameType, Hpa, Page, Reply};
+///
+/// let page = Page { kind: FrameType::Tdcx, owner: Some(Hpa(1073741824)) };
+/// assert_eq!(Reply::Page(page).to_string(), "answer\t0\ttype\t2\towner\t1073741824");
+/// ```
+#[non_exhaustive]
 #[derive(Clone, Copy, Debug, PartialEq, Eq, Hash)]
 pub enum Reply {
     /// Accepted, and nothing to read.
@@ -103,18 +47,36 @@ pub enum Reply {
     Entry(Entry),
 }
 
+impl Display for Reply {
+    fn fmt(&self, f: &mut Formatter<'_>) -> fmt::Result {
+        f.write_str("answer\t0")?;
+        match self {
+            Reply::Done => Ok(()),
+            Reply::Page(Page { kind, owner }) => {
+                let owner = owner.unwrap_or_default().0;
+                write!(f, "\ttype\t{}\towner\t{owner}", kind.number())
+            }
+            Reply::Entry(Entry { level, state, hpa }) => {
+                let (level, state, hpa) = (level.0, state.number(), hpa.unwrap_or_default().0);
+                write!(f, "\tlevel\t{level}\tstate\t{state}\thpa\t{hpa}")
+            }
+        }
+    }
+}
+
 /// Why a call is refused. A refusal leaves tables and gauge untouched.
 ///
 /// ```
-/// use reefnettle::{Hpa, Key, Model, Refusal};
+/// use reefnettle::{Hpa, Key, Model, Refusal, Sizes, Window};
 ///
-/// let mut model = Model::fresh(Hpa(1 << 30), 1024, 4, 12)?;
+/// let mut model = Model::fresh(Window::BASE_LEAST, Sizes::PROGRAM)?;
 /// let refusal = model.create(Hpa(262144), Key(32)).unwrap_err();
 /// assert_eq!(refusal, Refusal::Operand);
 /// assert_eq!(refusal.number(), 1);
 /// println!("answer {}: {refusal}", refusal.number());
 /// # Ok::<(), Refusal>(())
 /// ```
+#[non_exhaustive]
 #[derive(Clone, Copy, Debug, PartialEq, Eq, Hash)]
 pub enum Refusal {
     /// Answer 1: an operand or a setting of marks is out of rule.
@@ -183,34 +145,38 @@ impl Refusal {
         }
     }
 
-    fn sentence(self) -> &'static str {
+    /// What this refusal means, in a sentence without a full stop. C has the same
+    /// words, by `reefnettle_answer_text`.
+    pub fn sentence(self) -> &'static str {
         match self {
             Refusal::Operand => {
-                "an hpa is unaligned or outside the window, a gpa is too big or unaligned for its \
-                 level, a level or key is out of range, or a gauge setting is out of rule"
+                "an operand is out of rule: an hpa not on a frame or outside the window, a gpa \
+                 too big or unaligned for its level, a level, a key, or a mark of the gauge"
             }
             Refusal::WrongFrame => {
-                "the domain's frame isn't a TDR, the frame isn't NDA where it must be, or an NDA \
-                 frame is to be reclaimed"
+                "the wrong frame: the domain's frame is no TDR, the frame isn't free where it \
+                 must be, or a free frame is to be reclaimed"
             }
             Refusal::Lifecycle => "the domain's lifecycle is wrong for the call",
-            Refusal::ControlPages => "there are fewer than 4 control pages, or already 4 at addcx",
+            Refusal::ControlPages => "control pages: fewer than 4, or already 4 at addcx",
             Refusal::OpState => "the domain's op state is wrong for the call",
             Refusal::WalkStopped { .. } => "the walk stopped above the level asked for",
             Refusal::WrongState { .. } => "the entry's state is wrong for the call",
-            Refusal::NotTracked => "the frame isn't tracked since it was blocked",
-            Refusal::PagesRemain => {
-                "pages remain: the TDR has children, or the table an entry that isn't FREE"
+            Refusal::NotTracked => {
+                "not tracked: the domain's epoch hasn't moved on since the frame was blocked"
             }
-            Refusal::KeyTaken => "a domain before teardown has the key",
-            Refusal::NoStock => "no unused record or table is left",
+            Refusal::PagesRemain => {
+                "pages remain: a TDR has children, or a table has an entry that isn't FREE"
+            }
+            Refusal::KeyTaken => "the key is taken: a domain before teardown has it",
+            Refusal::NoStock => "no unused record (create) or table (septadd) is left",
             Refusal::EpochLimit => "the domain's epoch is at its limit",
             Refusal::OutOfRange => {
-                "the lent sizes or base, a stored number or code, or a mark of the lent gauge is \
-                 out of range"
+                "what was lent is out of range: a size, the base, a stored number or code, or a \
+                 mark of the gauge"
             }
             Refusal::Contradiction => "the lent tables contradict one another",
-            Refusal::Unreadable => "the line or the number of the call can't be read",
+            Refusal::Unreadable => "unreadable: a script's line, or a number that names no call",
         }
     }
 }
@@ -264,7 +230,7 @@ impl raw::Answer {
 
     pub(crate) fn page(self) -> Page {
         Page {
-            kind: FrameType::ALL[self.kind as usize],
+            kind: FrameType::of_number(self.kind).expect("the library has no other type"),
             owner: named(self.owner),
         }
     }
@@ -278,7 +244,7 @@ impl raw::Answer {
     }
 
     fn entry_state(self) -> EntryState {
-        EntryState::ALL[self.state as usize]
+        EntryState::of_number(self.state).expect("the library has no other state")
     }
 }
 
@@ -301,15 +267,5 @@ mod tests {
             };
             assert_eq!(answer.judged().unwrap_err().number(), number);
         }
-    }
-
-    #[test]
-    fn types_and_states_have_their_numbers() {
-        assert!((0..)
-            .zip(FrameType::ALL)
-            .all(|(n, kind)| kind.number() == n));
-        assert!((0..)
-            .zip(EntryState::ALL)
-            .all(|(n, state)| state.number() == n));
     }
 }

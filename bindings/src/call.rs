@@ -1,5 +1,6 @@
 //! Calls as values, and the script's lines.
 
+use std::fmt::{self, Display, Formatter};
 use std::str::FromStr;
 
 use crate::answer::Refusal;
@@ -9,17 +10,22 @@ use crate::units::{Gpa, Hpa, Key, Level};
 /// `frame` that of a frame. [`Model`](crate::Model) has a method for each, which
 /// says more.
 ///
-/// A line of a script parses to a call: its name, then for each operand the unit
-/// and the number, with single tabs between. A line that can't be read is
-/// [`Refusal::Unreadable`].
+/// A line of a script parses to a call, and a call is displayed as its line: the
+/// name, then for each operand the unit and the number, with single tabs between.
+/// A line that can't be read is [`Refusal::Unreadable`]. Scripts have neither a
+/// reset nor a setting of marks: these are displayed in the same way, as `reset`
+/// and as `marks`, `raise` and a number, `clear` and a number, and aren't read.
 ///
 /// ```
 /// use reefnettle::{Call, Hpa, Key, Refusal};
 ///
-/// let call = "create\thpa\t1073741824\tkey\t32".parse();
-/// assert_eq!(call, Ok(Call::Create { frame: Hpa(1073741824), key: Key(32) }));
+/// let line = "create\thpa\t1073741824\tkey\t32";
+/// let call = Call::Create { frame: Hpa(1073741824), key: Key(32) };
+/// assert_eq!(line.parse(), Ok(call));
+/// assert_eq!(call.to_string(), line);
 /// assert_eq!("create\tpfn\t262144\tkey\t32".parse::<Call>(), Err(Refusal::Unreadable));
 /// ```
+#[non_exhaustive]
 #[derive(Clone, Copy, Debug, PartialEq)]
 #[allow(missing_docs)]
 pub enum Call {
@@ -70,12 +76,76 @@ pub enum Call {
     ReadEntry { domain: Hpa, gpa: Gpa, level: Level },
 }
 
-/// One operand of a line.
+/// One operand of a line. No line that can be read has a mark.
 enum Operand {
     Hpa(Hpa),
     Gpa(Gpa),
     Level(Level),
     Key(Key),
+    Raise(f64),
+    Clear(f64),
+}
+
+impl Display for Operand {
+    fn fmt(&self, f: &mut Formatter<'_>) -> fmt::Result {
+        match self {
+            Operand::Hpa(Hpa(bytes)) => write!(f, "hpa\t{bytes}"),
+            Operand::Gpa(Gpa(bytes)) => write!(f, "gpa\t{bytes}"),
+            Operand::Level(Level(number)) => write!(f, "level\t{number}"),
+            Operand::Key(Key(number)) => write!(f, "key\t{number}"),
+            Operand::Raise(mark) => write!(f, "raise\t{mark}"),
+            Operand::Clear(mark) => write!(f, "clear\t{mark}"),
+        }
+    }
+}
+
+impl Display for Call {
+    /// Writes the line of a script, without a line feed.
+    fn fmt(&self, f: &mut Formatter<'_>) -> fmt::Result {
+        let (name, operands) = line_of(*self);
+        f.write_str(name)?;
+        operands
+            .iter()
+            .try_for_each(|operand| write!(f, "\t{operand}"))
+    }
+}
+
+/// The name of a call and its operands, as its line has them.
+fn line_of(call: Call) -> (&'static str, Vec<Operand>) {
+    use Operand::{Clear, Gpa, Hpa, Key, Level, Raise};
+    let page = |name, domain, gpa, frame| (name, vec![Hpa(domain), Gpa(gpa), Hpa(frame)]);
+    let entry = |name, domain, gpa, level| (name, vec![Hpa(domain), Gpa(gpa), Level(level)]);
+    match call {
+        Call::Reset => ("reset", vec![]),
+        Call::SetMarks { raise, clear } => ("marks", vec![Raise(raise), Clear(clear)]),
+        Call::Create { frame, key } => ("create", vec![Hpa(frame), Key(key)]),
+        Call::KeyConfig { domain } => ("keyconfig", vec![Hpa(domain)]),
+        Call::AddCx { domain, frame } => ("addcx", vec![Hpa(domain), Hpa(frame)]),
+        Call::Init { domain } => ("init", vec![Hpa(domain)]),
+        Call::SeptAdd {
+            domain,
+            gpa,
+            level,
+            frame,
+        } => {
+            let (name, mut operands) = entry("septadd", domain, gpa, level);
+            operands.push(Hpa(frame));
+            (name, operands)
+        }
+        Call::PageAdd { domain, gpa, frame } => page("pageadd", domain, gpa, frame),
+        Call::Finalize { domain } => ("finalize", vec![Hpa(domain)]),
+        Call::PageAug { domain, gpa, frame } => page("pageaug", domain, gpa, frame),
+        Call::Block { domain, gpa, level } => entry("block", domain, gpa, level),
+        Call::Track { domain } => ("track", vec![Hpa(domain)]),
+        Call::Unblock { domain, gpa, level } => entry("unblock", domain, gpa, level),
+        Call::PageRemove { domain, gpa } => ("pageremove", vec![Hpa(domain), Gpa(gpa)]),
+        Call::SeptRemove { domain, gpa, level } => entry("septremove", domain, gpa, level),
+        Call::FlushDone { domain } => ("flushdone", vec![Hpa(domain)]),
+        Call::KeyFree { domain } => ("keyfree", vec![Hpa(domain)]),
+        Call::Reclaim { frame } => ("reclaim", vec![Hpa(frame)]),
+        Call::ReadPage { frame } => ("readpage", vec![Hpa(frame)]),
+        Call::ReadEntry { domain, gpa, level } => entry("readentry", domain, gpa, level),
+    }
 }
 
 impl FromStr for Call {

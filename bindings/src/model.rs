@@ -3,35 +3,10 @@
 use crate::answer::{Entry, Page, Refusal, Reply};
 use crate::call::Call;
 use crate::gauge::Gauge;
+use crate::parts::Parts;
 use crate::raw::{self, number, Answer, Request};
+use crate::sizes::Sizes;
 use crate::units::{Gpa, Hpa, Key, Level, Window};
-
-const RECORD_WORDS: usize = 5;
-const TABLE_ENTRIES: usize = 512;
-
-/// The most that the library takes.
-const FRAMES_MOST: usize = 4096;
-const RECORDS_MOST: usize = 16;
-const TABLES_MOST: usize = 64;
-
-/// All that a model stores: what is lent to the library at each call.
-/// `docs/TABLES.md` of the repository says what each word holds.
-#[derive(Clone, Debug, PartialEq)]
-pub struct Parts {
-    /// Address of frame 0.
-    pub base: Hpa,
-    /// A word for each frame.
-    pub frames: Vec<u64>,
-    /// Words 5 for each domain record.
-    pub domains: Vec<u64>,
-    /// A bit for each table and, behind them, for each record: whether it is in
-    /// use.
-    pub stock: Vec<u64>,
-    /// Words 512 for each table and, behind them, for each record's root.
-    pub entries: Vec<u32>,
-    /// The fill gauge.
-    pub gauge: Gauge,
-}
 
 /// The ownership tables and the gauge, with a method for each call.
 ///
@@ -40,10 +15,13 @@ pub struct Parts {
 /// pages, and it is initialized or runnable. A refused call changes nothing. An
 /// accepted one, even one that reads, stores the fill and may move the lamp.
 ///
-/// ```
-/// use reefnettle::{FrameType, Frame, Hpa, Key, Model, Refusal};
+/// A clone is a model of its own. [`Model::rehearse`] asks a whole plan of one.
 ///
-/// let mut model = Model::fresh(Hpa(1 << 30), 1024, 4, 12)?;
+/// ```
+/// use reefnettle::{FrameType, Frame, Key, Model, Refusal, Sizes, Window};
+///
+/// let sizes = Sizes { frames: 1024, records: 4, tables: 12 };
+/// let mut model = Model::fresh(Window::BASE_LEAST, sizes)?;
 /// let [domain, page] = [0, 1].map(|n| model.window().hpa(Frame(n)).unwrap());
 /// model.create(domain, Key(32))?;
 /// model.keyconfig(domain)?;
@@ -62,49 +40,74 @@ pub struct Model {
 impl Model {
     /// A fresh start: all frames free, all stock unused.
     ///
-    /// Frames are a power of two, 512 to 4096, records 1 to 16, tables 4 to 64,
-    /// the base a multiple of bytes 2^30, from 2^30 to 2^46; else
-    /// [`Refusal::OutOfRange`].
+    /// Frames are a power of two, all sizes from [`Sizes::LEAST`] to
+    /// [`Sizes::MOST`], the base a multiple of [`Window::BASE_LEAST`] up to
+    /// [`Window::BASE_MOST`]; else [`Refusal::OutOfRange`].
     ///
     /// ```
-    /// use reefnettle::{Hpa, Model, Refusal};
+    /// use reefnettle::{Model, Refusal, Sizes, Window};
     ///
-    /// assert!(Model::fresh(Hpa(1 << 46), 4096, 16, 64).is_ok());
-    /// assert_eq!(Model::fresh(Hpa(1 << 30), 1000, 4, 12), Err(Refusal::OutOfRange));
+    /// assert!(Model::fresh(Window::BASE_MOST, Sizes::MOST).is_ok());
+    /// let uneven = Sizes { frames: 1000, ..Sizes::PROGRAM };
+    /// assert_eq!(Model::fresh(Window::BASE_LEAST, uneven), Err(Refusal::OutOfRange));
     /// ```
-    pub fn fresh(
-        base: Hpa,
-        frames: usize,
-        records: usize,
-        tables: usize,
-    ) -> Result<Model, Refusal> {
+    pub fn fresh(base: Hpa, sizes: Sizes) -> Result<Model, Refusal> {
         // Nothing is allocated that the library would only refuse.
-        if frames > FRAMES_MOST || records > RECORDS_MOST || tables > TABLES_MOST {
+        if !sizes.allocatable() {
             return Err(Refusal::OutOfRange);
         }
-        let blocks = tables + records;
         let mut model = Model::from_parts(Parts {
             base,
-            frames: vec![0; frames],
-            domains: vec![0; RECORD_WORDS * records],
-            stock: vec![0; blocks.div_ceil(u64::BITS as usize)],
-            entries: vec![0; TABLE_ENTRIES * blocks],
+            frames: vec![0; sizes.frames_words()],
+            domains: vec![0; sizes.domains_words()],
+            stock: vec![0; sizes.stock_words()],
+            entries: vec![0; sizes.entries_words()],
             gauge: Gauge::FRESH,
         });
         model.reset()?;
         Ok(model)
     }
 
-    /// A model of any contents and any lengths. They aren't judged here: each
-    /// call judges them and refuses what is out of range.
+    /// A model of the tables of a running machine: [`Refusal::OutOfRange`] if the
+    /// library finds a length, the base, a stored number or code or a mark out of
+    /// range. Tables in range may still contradict one another; then a call that
+    /// meets it is refused by [`Refusal::Contradiction`].
+    ///
+    /// Nothing is changed, the gauge neither: its fill is counted at the next
+    /// accepted call.
     ///
     /// ```
-    /// use reefnettle::{Hpa, Model, Refusal};
+    /// use reefnettle::{DomainRecord, Frame, FrameWord, Key, Model, Record, Refusal, Sizes, Window};
     ///
-    /// let mut parts = Model::fresh(Hpa(1 << 30), 1024, 4, 12)?.into_parts();
+    /// let mut parts = Model::fresh(Window::BASE_LEAST, Sizes::PROGRAM)?.into_parts();
+    /// parts.set_frame(Frame(7), FrameWord::tdr(Record(0)))?;
+    /// parts.set_record(Record(0), DomainRecord::new(Key(32)))?;
+    /// parts.set_record_in_use(Record(0), true)?;
+    /// let mut model = Model::import(parts.clone())?;
+    /// model.keyconfig(model.window().hpa(Frame(7)).unwrap())?;
+    ///
+    /// parts.set_record(Record(0), DomainRecord::new(Key(48)))?;
+    /// assert_eq!(Model::import(parts), Err(Refusal::OutOfRange)); // no such key
+    /// # Ok::<(), Refusal>(())
+    /// ```
+    pub fn import(parts: Parts) -> Result<Model, Refusal> {
+        let model = Model::from_parts(parts);
+        // An accepted readpage stores the fill, so a copy is asked.
+        model.clone().readpage(model.lent.base)?;
+        Ok(model)
+    }
+
+    /// A model of any contents and any lengths. They aren't judged here, as they
+    /// are by [`Model::import`]: each call judges them and refuses what is out of
+    /// range.
+    ///
+    /// ```
+    /// use reefnettle::{Model, Refusal, Sizes, Window};
+    ///
+    /// let mut parts = Model::fresh(Window::BASE_LEAST, Sizes::PROGRAM)?.into_parts();
     /// parts.frames[7] = 5; // there is no type 5
     /// let mut model = Model::from_parts(parts);
-    /// assert_eq!(model.readpage(Hpa(1 << 30)), Err(Refusal::OutOfRange));
+    /// assert_eq!(model.readpage(Window::BASE_LEAST), Err(Refusal::OutOfRange));
     /// # Ok::<(), Refusal>(())
     /// ```
     pub fn from_parts(parts: Parts) -> Model {
@@ -116,7 +119,18 @@ impl Model {
         self.lent
     }
 
-    /// All that is stored, to look at.
+    /// All that is stored, to look at: as words, and with types by the functions
+    /// of [`Parts`].
+    ///
+    /// ```
+    /// use reefnettle::{Frame, FrameWord, Key, Lifecycle, Model, Record, Sizes, Window};
+    ///
+    /// let mut model = Model::fresh(Window::BASE_LEAST, Sizes::PROGRAM)?;
+    /// model.create(Window::BASE_LEAST, Key(32))?;
+    /// assert_eq!(model.parts().frame(Frame(0))?, FrameWord::tdr(Record(0)));
+    /// assert_eq!(model.parts().record(Record(0))?.lifecycle, Lifecycle::HkidAssigned);
+    /// # Ok::<(), reefnettle::Refusal>(())
+    /// ```
     pub fn parts(&self) -> &Parts {
         &self.lent
     }
@@ -128,19 +142,16 @@ impl Model {
 
     /// The window of frames, which converts between frames and addresses.
     pub fn window(&self) -> Window {
-        Window {
-            base: self.lent.base,
-            frames: self.lent.frames.len(),
-        }
+        self.lent.window()
     }
 
     /// Asks the library in its own numbers.
     ///
     /// ```
     /// use reefnettle::raw::Request;
-    /// use reefnettle::{Hpa, Model};
+    /// use reefnettle::{Model, Sizes, Window};
     ///
-    /// let mut model = Model::fresh(Hpa(1 << 30), 1024, 4, 12)?;
+    /// let mut model = Model::fresh(Window::BASE_LEAST, Sizes::PROGRAM)?;
     /// let request = Request { call: 20, ..Request::default() };
     /// assert_eq!(model.ask_raw(request).number, 15); // there is no call 20
     /// # Ok::<(), reefnettle::Refusal>(())
@@ -152,10 +163,10 @@ impl Model {
     /// Asks any call.
     ///
     /// ```
-    /// use reefnettle::{Call, FrameType, Hpa, Model, Page, Reply};
+    /// use reefnettle::{Call, FrameType, Model, Page, Reply, Sizes, Window};
     ///
-    /// let mut model = Model::fresh(Hpa(1 << 30), 1024, 4, 12)?;
-    /// let reply = model.ask(&Call::ReadPage { frame: Hpa(1 << 30) })?;
+    /// let mut model = Model::fresh(Window::BASE_LEAST, Sizes::PROGRAM)?;
+    /// let reply = model.ask(&Call::ReadPage { frame: Window::BASE_LEAST })?;
     /// assert_eq!(reply, Reply::Page(Page { kind: FrameType::Nda, owner: None }));
     /// # Ok::<(), reefnettle::Refusal>(())
     /// ```
@@ -206,9 +217,9 @@ impl Model {
     /// above the raise mark. It reads nothing of the old gauge.
     ///
     /// ```
-    /// use reefnettle::{Hpa, Model, Refusal};
+    /// use reefnettle::{Model, Refusal, Sizes, Window};
     ///
-    /// let mut model = Model::fresh(Hpa(1 << 30), 1024, 4, 12)?;
+    /// let mut model = Model::fresh(Window::BASE_LEAST, Sizes::PROGRAM)?;
     /// model.set_marks(0.75, 0.5)?;
     /// assert_eq!(model.set_marks(0.3, 0.1), Err(Refusal::Operand)); // no whole frames of 1024
     /// # Ok::<(), Refusal>(())
@@ -366,9 +377,9 @@ impl Model {
     /// Reads an entry of a live domain, at level 0 to 3.
     ///
     /// ```
-    /// use reefnettle::{EntryState, Frame, Gpa, Hpa, Key, Level, Model, Refusal};
+    /// use reefnettle::{EntryState, Frame, Gpa, Key, Level, Model, Refusal, Sizes, Window};
     ///
-    /// let mut model = Model::fresh(Hpa(1 << 30), 1024, 4, 12)?;
+    /// let mut model = Model::fresh(Window::BASE_LEAST, Sizes::PROGRAM)?;
     /// let [domain, a, b, c, d, table] = [0, 1, 2, 3, 4, 5].map(|n| model.window().hpa(Frame(n)).unwrap());
     /// model.create(domain, Key(32))?;
     /// model.keyconfig(domain)?;

@@ -3,8 +3,12 @@
 //! gives the same with types.
 
 use crate::gauge::Gauge;
-use crate::model::Parts;
+use crate::parts::Parts;
 use crate::units::{Gpa, Hpa, Key, Level};
+
+/// The version of the library that this package is for. It goes up when a struct,
+/// a number or the layout of a stored word changes, so that the two no longer fit.
+pub const VERSION: u64 = 1;
 
 /// Numbers of the calls.
 #[allow(missing_docs)]
@@ -85,11 +89,35 @@ extern "C" {
         gauge: *mut Gauge,
         request: Request,
     ) -> Answer;
+
+    fn reefnettle_version() -> u64;
+}
+
+/// The version of the library that is linked. Where it isn't [`VERSION`], the
+/// first ask panics, before anything is lent.
+///
+/// ```
+/// assert_eq!(reefnettle::version(), reefnettle::VERSION);
+/// ```
+#[allow(unsafe_code)]
+pub fn version() -> u64 {
+    // SAFETY: It takes nothing, touches nothing and returns a number.
+    unsafe { reefnettle_version() }
+}
+
+/// Stops the program if the library is for another package than this.
+fn must_fit(version: u64) {
+    assert_eq!(
+        version, VERSION,
+        "libreefnettle.a has another version than this package is for: make it anew, by `rt \
+         staticlib reefnettle` in the repository that the package is from"
+    );
 }
 
 /// Asks the library. Any contents and any lengths may be lent.
 #[allow(unsafe_code)]
 pub(crate) fn ask(lent: &mut Parts, request: Request) -> Answer {
+    must_fit(version());
     // SAFETY: This is what the header says that a caller owes. Each pointer
     // comes from a vector or a reference, so it is aligned and not null even for
     // words 0; each length is its vector's; the borrow of `lent` is exclusive,
@@ -115,46 +143,60 @@ pub(crate) fn ask(lent: &mut Parts, request: Request) -> Answer {
 #[cfg(test)]
 mod tests {
     use super::*;
-    use std::mem::{align_of, offset_of, size_of};
+    use std::mem::{align_of, size_of};
 
     // The same bytes as in examples/c/layout.c, which checks the header.
+
+    /// Where each field begins, in bytes from the struct's own beginning.
+    macro_rules! offsets {
+        ($whole:expr, $($field:ident)+) => {{
+            let whole = $whole;
+            let begin = std::ptr::addr_of!(whole) as usize;
+            [$(std::ptr::addr_of!(whole.$field) as usize - begin),+]
+        }};
+    }
 
     #[test]
     fn a_request_is_laid_out_as_in_the_header() {
         assert_eq!((size_of::<Request>(), align_of::<Request>()), (64, 8));
-        assert_eq!(offset_of!(Request, call), 0);
-        assert_eq!(offset_of!(Request, domain), 8);
-        assert_eq!(offset_of!(Request, gpa), 16);
-        assert_eq!(offset_of!(Request, level), 24);
-        assert_eq!(offset_of!(Request, frame), 32);
-        assert_eq!(offset_of!(Request, key), 40);
-        assert_eq!(offset_of!(Request, raise), 48);
-        assert_eq!(offset_of!(Request, clear), 56);
+        assert_eq!(
+            offsets!(Request::default(), call domain gpa level frame key raise clear),
+            [0, 8, 16, 24, 32, 40, 48, 56]
+        );
     }
 
     #[test]
     fn an_answer_is_laid_out_as_in_the_header() {
         assert_eq!((size_of::<Answer>(), align_of::<Answer>()), (48, 8));
-        assert_eq!(offset_of!(Answer, number), 0);
-        assert_eq!(offset_of!(Answer, kind), 8);
-        assert_eq!(offset_of!(Answer, owner), 16);
-        assert_eq!(offset_of!(Answer, level), 24);
-        assert_eq!(offset_of!(Answer, state), 32);
-        assert_eq!(offset_of!(Answer, hpa), 40);
+        assert_eq!(
+            offsets!(Answer::default(), number kind owner level state hpa),
+            [0, 8, 16, 24, 32, 40]
+        );
     }
 
     #[test]
     fn a_gauge_is_laid_out_as_in_the_header() {
         assert_eq!((size_of::<Gauge>(), align_of::<Gauge>()), (32, 8));
-        assert_eq!(offset_of!(Gauge, raise), 0);
-        assert_eq!(offset_of!(Gauge, clear), 8);
-        assert_eq!(offset_of!(Gauge, fill), 16);
-        assert_eq!(offset_of!(Gauge, lamp), 24);
+        assert_eq!(
+            offsets!(Gauge::FRESH, raise clear fill lamp),
+            [0, 8, 16, 24]
+        );
     }
 
     #[test]
     fn addresses_are_eight_bytes() {
         assert_eq!((size_of::<Hpa>(), align_of::<Hpa>()), (8, 8));
         assert_eq!((size_of::<Gpa>(), align_of::<Gpa>()), (8, 8));
+    }
+
+    #[test]
+    fn the_library_fits() {
+        must_fit(version());
+    }
+
+    #[test]
+    #[should_panic(expected = "libreefnettle.a has another version")]
+    fn a_library_of_another_version_is_never_asked() {
+        must_fit(VERSION + 1);
     }
 }

@@ -3,6 +3,8 @@
 
 use std::fmt::{self, Display, Formatter};
 
+use crate::sizes::TABLE_ENTRIES;
+
 /// Bytes in a frame.
 pub const FRAME_BYTES: u64 = 4096;
 
@@ -20,8 +22,8 @@ pub struct Gpa(pub u64);
 /// name frames so, calls and answers never do; a [`Window`] converts.
 ///
 /// ```compile_fail,E0308
-/// # use reefnettle::{Frame, Hpa, Key, Model};
-/// let mut model = Model::fresh(Hpa(1 << 30), 1024, 4, 12).unwrap();
+/// # use reefnettle::{Frame, Key, Model, Sizes, Window};
+/// let mut model = Model::fresh(Window::BASE_LEAST, Sizes::PROGRAM).unwrap();
 /// model.create(Frame(0), Key(32)); // no address
 /// ```
 #[derive(Clone, Copy, Debug, Default, PartialEq, Eq, PartialOrd, Ord, Hash)]
@@ -39,6 +41,60 @@ pub struct Level(pub usize);
 #[derive(Clone, Copy, Debug, Default, PartialEq, Eq, PartialOrd, Ord, Hash)]
 pub struct Key(pub u64);
 
+/// An epoch of a domain, 1 to 2^32 - 1; of a frame, 0 if it was never blocked.
+#[derive(Clone, Copy, Debug, Default, PartialEq, Eq, PartialOrd, Ord, Hash)]
+pub struct Epoch(pub u64);
+
+/// A domain record's number in the stock.
+#[derive(Clone, Copy, Debug, Default, PartialEq, Eq, PartialOrd, Ord, Hash)]
+pub struct Record(pub usize);
+
+/// A Secure EPT table's number in the stock.
+#[derive(Clone, Copy, Debug, Default, PartialEq, Eq, PartialOrd, Ord, Hash)]
+pub struct Table(pub usize);
+
+// The limits. Both ends belong to each range.
+
+impl Key {
+    /// The lowest key.
+    pub const LEAST: Key = Key(32);
+    /// The highest key.
+    pub const MOST: Key = Key(47);
+}
+
+impl Level {
+    /// The level of the root's entries.
+    pub const MOST: Level = Level(3);
+}
+
+impl Epoch {
+    /// The last epoch.
+    pub const MOST: Epoch = Epoch((1 << 32) - 1);
+}
+
+impl Gpa {
+    /// The first address that is too big.
+    pub const END: Gpa = Gpa(1 << 47);
+
+    /// The entry's index for this address in a table of a level's entries; `None`
+    /// above the highest level.
+    ///
+    /// ```
+    /// use reefnettle::{Gpa, Level};
+    ///
+    /// assert_eq!(Gpa(5 << 12).index(Level(0)), Some(5));
+    /// assert_eq!(Gpa(5 << 12).index(Level(1)), Some(0));
+    /// assert_eq!(Gpa(0).index(Level(4)), None);
+    /// ```
+    pub fn index(self, level: Level) -> Option<usize> {
+        if level > Level::MOST {
+            return None;
+        }
+        let low_zero_bits = 12 + 9 * level.0;
+        Some((self.0 >> low_zero_bits) as usize % TABLE_ENTRIES)
+    }
+}
+
 /// Writes the unit before the number, as scripts do.
 macro_rules! display_as {
     ($($unit:literal $number:ident),+) => {$(
@@ -51,13 +107,14 @@ macro_rules! display_as {
 }
 
 display_as!("hpa" Hpa, "gpa" Gpa, "frame" Frame, "level" Level, "key" Key);
+display_as!("epoch" Epoch, "record" Record, "table" Table);
 
 /// A base and a number of frames: the only way between frames and addresses.
 ///
 /// ```
 /// use reefnettle::{Frame, Hpa, Window};
 ///
-/// let window = Window { base: Hpa(1 << 30), frames: 1024 };
+/// let window = Window { base: Window::BASE_LEAST, frames: 1024 };
 /// assert_eq!(window.hpa(Frame(1)), Some(Hpa(1073745920)));
 /// assert_eq!(window.frame(Hpa(1073745920)), Some(Frame(1)));
 /// assert_eq!(window.frame(Hpa(1073745921)), None); // not on a frame
@@ -72,6 +129,11 @@ pub struct Window {
 }
 
 impl Window {
+    /// The lowest base. A base is a multiple of it.
+    pub const BASE_LEAST: Hpa = Hpa(1 << 30);
+    /// The highest base.
+    pub const BASE_MOST: Hpa = Hpa(1 << 46);
+
     /// The address of a frame, if the window has it.
     pub fn hpa(self, frame: Frame) -> Option<Hpa> {
         if frame.0 >= self.frames {

@@ -3,13 +3,13 @@
 use reefnettle::raw::Request;
 use reefnettle::{
     Call, Entry, EntryState, Frame, FrameType, Gauge, Gpa, Hpa, Key, Level, Model, Page, Parts,
-    Refusal,
+    Refusal, Sizes, Window,
 };
 
-const BASE: Hpa = Hpa(1 << 30);
+const BASE: Hpa = Window::BASE_LEAST;
 
 fn fresh() -> Model {
-    Model::fresh(BASE, 1024, 4, 12).unwrap()
+    Model::fresh(BASE, Sizes::PROGRAM).unwrap()
 }
 
 fn hpa(frame: usize) -> Hpa {
@@ -125,24 +125,75 @@ fn marks_light_the_lamp() -> Result<(), Refusal> {
 
 #[test]
 fn fresh_models_keep_to_the_limits() {
-    let sizes = |frames, records, tables| Model::fresh(BASE, frames, records, tables).map(|_| ());
-    assert_eq!(sizes(512, 1, 4), Ok(()));
-    assert_eq!(sizes(4096, 16, 64), Ok(()));
-    for (frames, records, tables) in [
-        (256, 1, 4),
-        (1000, 1, 4),
-        (8192, 1, 4),
-        (512, 0, 4),
-        (512, 17, 4),
-        (512, 1, 3),
-        (512, 1, 65),
-        (usize::MAX, usize::MAX, usize::MAX),
-    ] {
-        assert_eq!(sizes(frames, records, tables), Err(Refusal::OutOfRange));
+    let (least, most) = (Sizes::LEAST, Sizes::MOST);
+    let fresh = |sizes| Model::fresh(BASE, sizes).map(|_| ());
+    for sizes in [least, most, Sizes::PROGRAM] {
+        assert_eq!(fresh(sizes), Ok(()), "{sizes}");
     }
-    let base = |bytes| Model::fresh(Hpa(bytes), 512, 1, 4).map(|_| ());
-    assert_eq!(base(1 << 46), Ok(()));
-    assert_eq!(base((1 << 30) + 4096), Err(Refusal::OutOfRange));
+    let frames = |frames| Sizes { frames, ..least };
+    let records = |records| Sizes { records, ..least };
+    let tables = |tables| Sizes { tables, ..least };
+    for sizes in [
+        frames(least.frames / 2),
+        frames(1000),
+        frames(most.frames * 2),
+        records(least.records - 1),
+        records(most.records + 1),
+        tables(least.tables - 1),
+        tables(most.tables + 1),
+        Sizes {
+            frames: usize::MAX,
+            records: usize::MAX,
+            tables: usize::MAX,
+        },
+    ] {
+        assert_eq!(fresh(sizes), Err(Refusal::OutOfRange), "{sizes}");
+    }
+}
+
+#[test]
+fn bases_keep_to_the_limits() {
+    let fresh = |base| Model::fresh(base, Sizes::LEAST).map(|_| ());
+    let (least, most) = (Window::BASE_LEAST, Window::BASE_MOST);
+    for base in [least, Hpa(2 * least.0), most] {
+        assert_eq!(fresh(base), Ok(()), "{base}");
+    }
+    for base in [Hpa(0), Hpa(least.0 + 4096), Hpa(most.0 + least.0)] {
+        assert_eq!(fresh(base), Err(Refusal::OutOfRange), "{base}");
+    }
+}
+
+#[test]
+fn operands_keep_to_the_limits() {
+    for key in [Key::LEAST, Key::MOST] {
+        assert_eq!(fresh().create(BASE, key), Ok(()), "{key}");
+    }
+    for key in [Key(Key::LEAST.0 - 1), Key(Key::MOST.0 + 1)] {
+        assert_eq!(fresh().create(BASE, key), Err(Refusal::Operand), "{key}");
+    }
+    let read = |gpa, level| built().readentry(hpa(0), gpa, level).map(|_| ());
+    assert_eq!(read(Gpa(0), Level::MOST), Ok(()));
+    let above = Level(Level::MOST.0 + 1);
+    assert_eq!(read(Gpa(0), above), Err(Refusal::Operand));
+    assert_eq!(read(Gpa(Gpa::END.0 - (1 << 39)), Level::MOST), Ok(()));
+    assert_eq!(read(Gpa::END, Level::MOST), Err(Refusal::Operand));
+}
+
+#[test]
+fn threads_ask_at_once_each_its_own_model() {
+    let threads = [Key(32), Key(33)].map(|key| {
+        std::thread::spawn(move || {
+            let mut model = fresh();
+            for _ in 0..100 {
+                model.create(BASE, key).unwrap();
+                model.reset().unwrap();
+            }
+            model
+        })
+    });
+    for thread in threads {
+        assert_eq!(thread.join().unwrap(), fresh());
+    }
 }
 
 #[test]

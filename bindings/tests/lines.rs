@@ -1,5 +1,6 @@
 //! Lines of the script, readable and not.
 
+use reefnettle::raw::number;
 use reefnettle::{Call, Hpa, Refusal};
 
 /// Reads a line that has a blank for each tab.
@@ -63,6 +64,37 @@ const LINES: [(&str, &str); 18] = [
 fn every_name_is_read() {
     for (line, call) in LINES {
         assert_eq!(format!("{:?}", read(line).unwrap()), call);
+    }
+}
+
+#[test]
+fn every_call_of_the_script_has_a_line() {
+    let calls = number::CREATE..=number::READENTRY;
+    assert_eq!(LINES.len(), calls.count());
+}
+
+#[test]
+fn every_call_is_written_as_its_line() {
+    for (line, _) in LINES {
+        let call = read(line).unwrap();
+        let written = call.to_string();
+        assert_eq!(written, line.replace(' ', "\t"));
+        assert_eq!(written.parse(), Ok(call));
+    }
+}
+
+#[test]
+fn what_scripts_lack_is_written_but_not_read() {
+    let marks = Call::SetMarks {
+        raise: 0.75,
+        clear: 0.5,
+    };
+    for (call, line) in [
+        (Call::Reset, "reset"),
+        (marks, "marks\traise\t0.75\tclear\t0.5"),
+    ] {
+        assert_eq!(call.to_string(), line);
+        assert_eq!(line.parse::<Call>(), Err(Refusal::Unreadable));
     }
 }
 

@@ -5,39 +5,33 @@ use std::fmt::Write;
 use std::fs;
 use std::path::Path;
 
-use reefnettle::{Call, Entry, Hpa, Model, Page, Refusal, Reply};
+use reefnettle::{Call, Model, Refusal, Reply, Sizes, Window};
 
-/// The number of an answer, and what is read out with it, as the program
-/// writes them.
-fn readout(answer: Result<Reply, Refusal>) -> String {
+/// An answer as the program writes it, the number and what is read out.
+fn written(answer: Result<Reply, Refusal>) -> String {
     match answer {
-        Ok(Reply::Done) => "0".into(),
-        Ok(Reply::Page(Page { kind, owner })) => {
-            let (kind, owner) = (kind.number(), owner.unwrap_or_default().0);
-            format!("0\ttype\t{kind}\towner\t{owner}")
+        Ok(reply) => reply.to_string(),
+        Err(refusal) => {
+            let number = refusal.number();
+            match refusal {
+                Refusal::WalkStopped { level, state } | Refusal::WrongState { level, state } => {
+                    let (level, state) = (level.0, state.number());
+                    format!("answer\t{number}\tlevel\t{level}\tstate\t{state}")
+                }
+                _ => format!("answer\t{number}"),
+            }
         }
-        Ok(Reply::Entry(Entry { level, state, hpa })) => {
-            let (level, state, hpa) = (level.0, state.number(), hpa.unwrap_or_default().0);
-            format!("0\tlevel\t{level}\tstate\t{state}\thpa\t{hpa}")
-        }
-        Err(Refusal::WalkStopped { level, state }) => {
-            format!("6\tlevel\t{}\tstate\t{}", level.0, state.number())
-        }
-        Err(Refusal::WrongState { level, state }) => {
-            format!("7\tlevel\t{}\tstate\t{}", level.0, state.number())
-        }
-        Err(refusal) => refusal.number().to_string(),
     }
 }
 
 fn replay(script: &str) -> Result<String, Refusal> {
-    let mut model = Model::fresh(Hpa(1 << 30), 1024, 4, 12)?;
+    let mut model = Model::fresh(Window::BASE_LEAST, Sizes::PROGRAM)?;
     model.set_marks(0.75, 0.5)?;
     let mut answers = String::from("bytes\t4096\tframes\t1024\n");
     for (line, text) in (1..).zip(script.split_terminator('\n')) {
         let call: Result<Call, Refusal> = text.parse();
-        let answer = readout(call.and_then(|call| model.ask(&call)));
-        writeln!(answers, "line\t{line}\tanswer\t{answer}").unwrap();
+        let answer = written(call.and_then(|call| model.ask(&call)));
+        writeln!(answers, "line\t{line}\t{answer}").unwrap();
     }
     let (used, lamp) = (model.gauge().fill * 1024.0, u8::from(model.gauge().lamp));
     writeln!(answers, "used\t{used}\tlamp\t{lamp}").unwrap();
@@ -46,7 +40,8 @@ fn replay(script: &str) -> Result<String, Refusal> {
 
 #[test]
 fn scripts_answer_as_written() {
-    let repository = Path::new(env!("CARGO_MANIFEST_DIR")).join("..");
+    // Cargo runs tests in the package's folder.
+    let repository = Path::new("..");
     for script in [
         "lessons/1-create",
         "lessons/2-pages",

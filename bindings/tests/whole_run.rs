@@ -1,6 +1,6 @@
 //! The whole run of the paper, line by line.
 
-use reefnettle::{Call, FrameType, Hpa, Model, Page, Refusal, Reply};
+use reefnettle::{Call, FrameType, Hpa, Model, Page, Refusal, Reply, Sizes};
 
 /// Each line and its answer, a blank for each tab.
 const RUN: [(&str, Result<Reply, Refusal>); 9] = [
@@ -23,7 +23,7 @@ const RUN: [(&str, Result<Reply, Refusal>); 9] = [
 
 #[test]
 fn the_papers_run() -> Result<(), Refusal> {
-    let mut model = Model::fresh(Hpa(1073741824), 1024, 4, 12)?;
+    let mut model = Model::fresh(Hpa(1073741824), Sizes::PROGRAM)?;
     model.set_marks(0.75, 0.5)?;
     for (line, answer) in RUN {
         let call: Result<Call, Refusal> = line.replace(' ', "\t").parse();
