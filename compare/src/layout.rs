@@ -1,7 +1,7 @@
 //! The lent words and the twin's tables, each made from the other as
 //! `docs/TABLES.md` has them.
 
-use reefnettle::{Gauge, Hpa, Parts};
+use reefnettle_compare::{Gauge, Hpa, Parts};
 use reefnettle_twin::{Entry, Frame, Machine, Record, CONTROL_PAGES, ENTRIES};
 
 pub const RECORD_WORDS: usize = 1 + CONTROL_PAGES;

@@ -1,7 +1,6 @@
 //! Draws requests for tables that were reached by calls.
 
-use reefnettle::raw::{number, Request};
-use reefnettle::{Gpa, Hpa, Key, Level};
+use reefnettle_compare::{number, Gpa, Hpa, Key, Level, Request};
 use reefnettle_twin::{
     entry_state, frame_type, lifecycle, op_state, Machine, Record, Rng, CONTROL_PAGES, ENTRIES,
     FRAME_BYTES, GPA_LIMIT, KEY_HIGHEST, KEY_LOWEST, LEVEL_SHIFT, TOP_LEVEL,
@@ -32,7 +31,7 @@ impl<'a> Requests<'a> {
             call,
             domain: self.domain(tdr),
             gpa: self.gpa(tdr, at),
-            level: Level(level as usize),
+            level: Level(level),
             frame: self.frame(call),
             key: self.key(),
             raise: self.mark(),
@@ -121,7 +120,7 @@ impl<'a> Requests<'a> {
         Request {
             call,
             gpa: Gpa(gpa >> low << low),
-            level: Level(last.level as usize),
+            level: Level(last.level),
             ..request
         }
     }

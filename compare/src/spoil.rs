@@ -1,7 +1,6 @@
 //! What is done to reached tables before they are lent.
 
-use reefnettle::raw::Request;
-use reefnettle::{Gauge, Hpa, Parts};
+use reefnettle_compare::{Gauge, Hpa, Parts, Request};
 use reefnettle_twin::{Machine, Rng, BASE_HIGHEST, BASE_LOWEST, ENTRIES, FRAME_BYTES};
 
 use crate::damage::Damage;
