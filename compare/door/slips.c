@@ -1,5 +1,5 @@
-/* Wrong libraries: each wraps the right one and does one thing more. -DSLIP=NAME says which. A comparison that didn't see it would be worth
- * nothing, so compare/run links a door with each of them and wants it refused.
+/* Wrong libraries: each wraps the right one and then makes a slip; -DSLIP=NAME says which. A comparison that didn't see
+ * them would be worth nothing, so compare/run links a door with each and wants it refused.
  */
 #include "reefnettle.h"
 
@@ -95,7 +95,14 @@ reefnettle_answer __wrap_reefnettle_ask(reefnettle_hpa base,
                                         uint32_t *entries, size_t entries_words,
                                         reefnettle_gauge *gauge, reefnettle_request request)
 {
-    reefnettle_model lent = {base, frames, frames_words, domains, domains_words, stock, stock_words, entries, entries_words, gauge};
+    const reefnettle_model lent = {
+        .base = base,
+        .frames = frames, .frames_words = frames_words,
+        .domains = domains, .domains_words = domains_words,
+        .stock = stock, .stock_words = stock_words,
+        .entries = entries, .entries_words = entries_words,
+        .gauge = gauge,
+    };
     reefnettle_answer answer = __real_reefnettle_ask(base, frames, frames_words, domains, domains_words,
                                                      stock, stock_words, entries, entries_words, gauge, request);
     SLIP((outcome){&lent, &answer});

@@ -5,7 +5,7 @@ use reefnettle_twin::{Machine, Rng, BASE_HIGHEST, BASE_LOWEST, ENTRIES, FRAME_BY
 
 use crate::damage::Damage;
 use crate::floats;
-use crate::layout::{self, RECORD_WORDS, WORD_BITS};
+use crate::layout::{self, RECORD_WORDS};
 
 /// A way to spoil lent words, or not to.
 #[derive(Clone, Copy, Debug, PartialEq, Eq, PartialOrd, Ord)]
@@ -185,7 +185,7 @@ pub fn junk(rng: &mut Rng) -> Parts {
         base: Hpa(base),
         frames: (0..frames).map(|_| rng.bits()).collect(),
         domains: (0..RECORD_WORDS * records).map(|_| rng.bits()).collect(),
-        stock: (0..blocks.div_ceil(WORD_BITS))
+        stock: (0..layout::stock_words(blocks))
             .map(|_| rng.bits())
             .collect(),
         entries: (0..ENTRIES * blocks).map(|_| rng.bits() as u32).collect(),
