@@ -38,7 +38,7 @@ _Static_assert(sizeof(message) == 144, "bytes of a message");
 enum { STATUS_END_OF_INPUT = 0, STATUS_USAGE = 2, STATUS_NO_FILE = 3, STATUS_BROKEN_PIPE = 4 };
 
 enum { CALL_READ = 0, CALL_WRITE = 1, CALL_OPEN = 2, CALL_MMAP = 9, CALL_EXIT_GROUP = 231 };
-enum { STANDARD_INPUT = 0, STANDARD_OUTPUT = 1 };
+enum { STANDARD_INPUT = 0, STANDARD_OUTPUT = 1, STANDARD_ERROR = 2 };
 enum { OPEN_READ_WRITE = 2 };
 enum { PROTECT_NONE = 0, PROTECT_READ_WRITE = 3 };
 enum { MAP_SHARED_FIXED = 0x11, MAP_PRIVATE_ANONYMOUS_NO_RESERVE = 0x4022 };
@@ -59,6 +59,14 @@ static int64_t system_call(uint64_t number, uint64_t a, uint64_t b, uint64_t c, 
 static _Noreturn void leave(uint64_t status)
 {
     for (;;) system_call(CALL_EXIT_GROUP, status, 0, 0, 0, 0, 0);
+}
+
+static _Noreturn void refuse(uint64_t status, const char *why)
+{
+    size_t bytes = 0;
+    while (why[bytes] != 0) bytes++;
+    system_call(CALL_WRITE, STANDARD_ERROR, (uintptr_t)why, bytes, 0, 0, 0);
+    leave(status);
 }
 
 /* The compiler and the library call these two. In assembly, so that no compiler turns them into calls of themselves. */
@@ -103,12 +111,12 @@ static void map_parts(const char *path, uintptr_t parts[PARTS])
     int64_t file = system_call(CALL_OPEN, (uintptr_t)path, OPEN_READ_WRITE, 0, 0, 0, 0);
     uint64_t all_bytes = PARTS * (uint64_t)(GUARD_BYTES + PART_BYTES) + GUARD_BYTES;
     int64_t guard = system_call(CALL_MMAP, 0, all_bytes, PROTECT_NONE, MAP_PRIVATE_ANONYMOUS_NO_RESERVE, UINT64_MAX, 0);
-    if (file < 0 || guard < 0) leave(STATUS_NO_FILE);
+    if (file < 0 || guard < 0) refuse(STATUS_NO_FILE, "door: the file can't be opened\n");
     for (uint64_t part = 0; part < PARTS; part++) {
         uint64_t place = (uint64_t)guard + part * (GUARD_BYTES + PART_BYTES) + GUARD_BYTES;
         int64_t mapped = system_call(CALL_MMAP, place, PART_BYTES, PROTECT_READ_WRITE, MAP_SHARED_FIXED, (uint64_t)file,
                                      part * PART_BYTES);
-        if (mapped < 0) leave(STATUS_NO_FILE);
+        if (mapped < 0) refuse(STATUS_NO_FILE, "door: the file can't be mapped\n");
         parts[part] = (uintptr_t)mapped;
     }
 }
@@ -130,7 +138,7 @@ __attribute__((used)) static _Noreturn void serve(const uintptr_t *stack)
     uintptr_t parts[PARTS];
     uint64_t message_bytes = sizeof(message);
     message m;
-    if (stack[0] != 2) leave(STATUS_USAGE);
+    if (stack[0] != 2) refuse(STATUS_USAGE, "usage: door FILE\n");
     map_parts((const char *)stack[2], parts);
     write_all(&message_bytes, sizeof message_bytes);
     while (read_message(&m)) {
