@@ -111,7 +111,7 @@ static void map_parts(const char *path, uintptr_t parts[PARTS])
     int64_t file = system_call(CALL_OPEN, (uintptr_t)path, OPEN_READ_WRITE, 0, 0, 0, 0);
     uint64_t all_bytes = PARTS * (uint64_t)(GUARD_BYTES + PART_BYTES) + GUARD_BYTES;
     int64_t guard = system_call(CALL_MMAP, 0, all_bytes, PROTECT_NONE, MAP_PRIVATE_ANONYMOUS_NO_RESERVE, UINT64_MAX, 0);
-    if (file < 0 || guard < 0) refuse(STATUS_NO_FILE, "door: the file can't be opened\n");
+    if (file < 0 || guard < 0) refuse(STATUS_NO_FILE, "door: no such file, or no room for its guards\n");
     for (uint64_t part = 0; part < PARTS; part++) {
         uint64_t place = (uint64_t)guard + part * (GUARD_BYTES + PART_BYTES) + GUARD_BYTES;
         int64_t mapped = system_call(CALL_MMAP, place, PART_BYTES, PROTECT_READ_WRITE, MAP_SHARED_FIXED, (uint64_t)file,
