@@ -1,6 +1,6 @@
 //! Stored numbers changed by hand, in range and out of it.
 
-use reefnettle::raw::Request;
+use reefnettle_compare::Request;
 use reefnettle_twin::{
     entry_state, frame_type, lifecycle, op_state, Entry, Frame, Machine, Record, Rng,
     CONTROL_PAGES, ENTRIES, EPOCH_LIMIT, FRAME_BYTES, KEY_HIGHEST, KEY_LOWEST, TOP_LEVEL,
@@ -40,7 +40,7 @@ impl<'a> Damage<'a> {
         };
         let level = match is_page_call(request.call) {
             true => 0,
-            false => TOP_LEVEL.min(request.level.0 as u64),
+            false => TOP_LEVEL.min(request.level.0),
         };
         self.steps = tree::way(self.machine, record, request.gpa.0, level);
         let named = self.steps.iter().filter(|step| !step.entry.is_free());

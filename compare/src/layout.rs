@@ -1,11 +1,16 @@
 //! The lent words and the twin's tables, each made from the other as
 //! `docs/TABLES.md` has them.
 
-use reefnettle::{Gauge, Hpa, Parts};
+use reefnettle_compare::{Gauge, Hpa, Parts};
 use reefnettle_twin::{Entry, Frame, Machine, Record, CONTROL_PAGES, ENTRIES};
 
 pub const RECORD_WORDS: usize = 1 + CONTROL_PAGES;
-pub const WORD_BITS: usize = 64;
+const WORD_BITS: usize = 64;
+
+/// Words of the stock for so many blocks.
+pub fn stock_words(blocks: usize) -> usize {
+    (blocks + WORD_BITS - 1) / WORD_BITS
+}
 
 /// The twin's tables for any words; `None` if the lengths fit no sizes at all,
 /// in or out of the limits.
@@ -32,7 +37,7 @@ pub fn pack(machine: &Machine) -> Parts {
     let tables = machine.tables.iter().map(|t| (&t.entries, t.in_use));
     let roots = machine.records.iter().map(|r| (&r.root, r.in_use));
     let blocks: Vec<_> = tables.chain(roots).collect();
-    let mut stock = vec![0; blocks.len().div_ceil(WORD_BITS)];
+    let mut stock = vec![0; stock_words(blocks.len())];
     for (block, _) in blocks.iter().enumerate().filter(|(_, (_, used))| *used) {
         stock[block / WORD_BITS] |= 1 << (block % WORD_BITS);
     }
@@ -61,7 +66,7 @@ fn stock_sizes(lent: &Parts) -> Option<(usize, usize)> {
     let blocks = lent.entries.len() / ENTRIES;
     let fits = lent.domains.len() == RECORD_WORDS * records
         && lent.entries.len() == ENTRIES * blocks
-        && lent.stock.len() == blocks.div_ceil(WORD_BITS);
+        && lent.stock.len() == stock_words(blocks);
     fits.then_some((records, blocks.checked_sub(records)?))
 }
 

@@ -2,10 +2,12 @@
 //! then answer, read-outs, every word and every bit of the gauge.
 //!
 //! ```text
-//! reefnettle-compare [--cases N] [--seed S]
+//! reefnettle-compare [--cases N] [--seed S] [--patience SECONDS] DOOR [WORD ...]
 //! ```
 //!
-//! The same seed gives the same cases. It fails where the sides differ, and if
+//! DOOR and its words are the command that starts the library's door, which
+//! `compare/run` builds. The same seed gives the same cases. It fails where the
+//! sides differ, if the door ends or gives no answer within the patience, and if
 //! an answer, an accepted call or a place of answer 14 was never met.
 
 mod damage;
@@ -19,10 +21,10 @@ mod tally;
 mod tree;
 
 use std::env;
-use std::process::ExitCode;
+use std::process::{Command, ExitCode};
+use std::time::Duration;
 
-use reefnettle::raw::{number, Request};
-use reefnettle::Parts;
+use reefnettle_compare::{number, Door, Parts, Request, PATIENCE};
 use reefnettle_twin::{Machine, Rng};
 
 use places::Place;
@@ -30,40 +32,56 @@ use requests::Requests;
 use spoil::Spoil;
 use tally::Tally;
 
+const USAGE: &str =
+    "usage: reefnettle-compare [--cases N] [--seed S] [--patience SECONDS] DOOR [WORD ...]";
+
 struct Options {
     cases: u64,
     seed: u64,
+    patience: Duration,
+    door: Command,
 }
 
 fn options() -> Option<Options> {
-    let mut options = Options {
-        cases: 500_000,
-        seed: 1,
-    };
+    let (mut cases, mut seed, mut patience) = (500_000, 1, PATIENCE);
     let mut arguments = env::args().skip(1);
-    while let Some(flag) = arguments.next() {
+    let program = loop {
+        let word = arguments.next()?;
+        if !word.starts_with("--") {
+            break word;
+        }
         let number = arguments.next()?.parse().ok()?;
-        match flag.as_str() {
-            "--cases" => options.cases = number,
-            "--seed" => options.seed = number,
+        match word.as_str() {
+            "--cases" => cases = number,
+            "--seed" => seed = number,
+            "--patience" => patience = Duration::from_secs(number),
             _ => return None,
         }
-    }
-    Some(options)
+    };
+    let mut door = Command::new(program);
+    door.args(arguments);
+    Some(Options {
+        cases,
+        seed,
+        patience,
+        door,
+    })
 }
 
 /// The cases of one seed.
 struct Comparison {
+    door: Door,
     rng: Rng,
     tally: Tally,
 }
 
-/// What differs, or the contradiction that isn't found.
+/// What differs, the contradiction that isn't found, or what befell the door.
 type Compared<T> = Result<T, String>;
 
 impl Comparison {
-    fn new(seed: u64) -> Self {
+    fn new(door: Door, seed: u64) -> Self {
         Comparison {
+            door,
             rng: Rng::new(seed),
             tally: Tally::default(),
         }
@@ -72,6 +90,7 @@ impl Comparison {
     /// From a reset of junk on, calls that bring domains on, and beside them
     /// what else can be lent and asked where each has come to.
     fn run_window(&mut self) -> Compared<()> {
+        self.door.turn();
         let junk = spoil::junk(&mut self.rng);
         let reset = Request {
             call: number::RESET,
@@ -105,11 +124,13 @@ impl Comparison {
 
     /// One case: the words after it, on which both sides agree.
     fn compare(&mut self, spoil: Spoil, lent: Parts, request: &Request) -> Compared<Parts> {
-        let library = sides::ask_library(&lent, request);
-        let twin = sides::ask_twin(&lent, request);
         let case = self.tally.cases + 1;
+        let wrong = |what: String| format!("case {case}, {spoil:?}, {request:?}\n{what}");
+        let library = self.door.ask(&lent, request);
+        let library = library.map_err(|fault| wrong(fault.to_string()))?;
+        let twin = sides::ask_twin(&lent, request);
         if let Some(difference) = sides::difference(&library, &twin) {
-            return Err(format!("case {case}, {spoil:?}, {request:?}\n{difference}"));
+            return Err(wrong(difference));
         }
         let answer = twin.answer.number;
         let place = match answer {
@@ -117,27 +138,35 @@ impl Comparison {
             _ => None,
         };
         if answer == 14 && place.is_none() {
-            return Err(format!("case {case}, {request:?}\nno contradiction found"));
+            return Err(wrong("no contradiction found".to_string()));
         }
         self.tally.note(spoil, request.call, answer, place);
         Ok(library.lent)
     }
 }
 
+/// Runs the cases; true if all that must be met was.
+fn run(options: Options) -> Compared<bool> {
+    let door = Door::open(options.door, options.patience).map_err(|fault| fault.to_string())?;
+    let mut comparison = Comparison::new(door, options.seed);
+    while comparison.tally.cases < options.cases {
+        let window = comparison.run_window();
+        window.map_err(|wrong| format!("seed {}, {wrong}", options.seed))?;
+    }
+    Ok(comparison.tally.report())
+}
+
 fn main() -> ExitCode {
-    let Some(Options { cases, seed }) = options() else {
-        eprintln!("usage: reefnettle-compare [--cases N] [--seed S]");
+    let Some(options) = options() else {
+        eprintln!("{USAGE}");
         return ExitCode::from(2);
     };
-    let mut comparison = Comparison::new(seed);
-    while comparison.tally.cases < cases {
-        if let Err(difference) = comparison.run_window() {
-            eprintln!("seed {seed}, {difference}");
-            return ExitCode::FAILURE;
+    match run(options) {
+        Ok(true) => ExitCode::SUCCESS,
+        Ok(false) => ExitCode::FAILURE,
+        Err(wrong) => {
+            eprintln!("reefnettle-compare: {wrong}");
+            ExitCode::FAILURE
         }
-    }
-    match comparison.tally.report() {
-        true => ExitCode::SUCCESS,
-        false => ExitCode::FAILURE,
     }
 }

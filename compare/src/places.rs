@@ -2,7 +2,7 @@
 
 use std::fmt::{self, Display, Formatter};
 
-use reefnettle::raw::{number, Request};
+use reefnettle_compare::{number, Request};
 use reefnettle_twin::{entry_state, frame_type, Entry, Machine, FRAME_BYTES};
 
 use crate::requests::is_page_call;
@@ -188,7 +188,7 @@ fn at_entries(machine: &Machine, tdr: usize, request: &Request) -> Option<Place>
     let target = match request.call {
         number::ADDCX => return None,
         call if is_page_call(call) => 0,
-        _ => request.level.0 as u64,
+        _ => request.level.0,
     };
     let record = machine.frames[tdr].number as usize;
     tree::way(machine, record, request.gpa.0, target)

@@ -1,7 +1,6 @@
 //! Draws requests for tables that were reached by calls.
 
-use reefnettle::raw::{number, Request};
-use reefnettle::{Gpa, Hpa, Key, Level};
+use reefnettle_compare::{number, Gpa, Hpa, Key, Level, Request};
 use reefnettle_twin::{
     entry_state, frame_type, lifecycle, op_state, Machine, Record, Rng, CONTROL_PAGES, ENTRIES,
     FRAME_BYTES, GPA_LIMIT, KEY_HIGHEST, KEY_LOWEST, LEVEL_SHIFT, TOP_LEVEL,
@@ -32,7 +31,7 @@ impl<'a> Requests<'a> {
             call,
             domain: self.domain(tdr),
             gpa: self.gpa(tdr, at),
-            level: Level(level as usize),
+            level: Level(level),
             frame: self.frame(call),
             key: self.key(),
             raise: self.mark(),
@@ -99,8 +98,8 @@ impl<'a> Requests<'a> {
         let early = op_state == op_state::INITIALIZED;
         match self.rng.below(100) {
             0 => return with_call(request, number::FLUSHDONE),
-            1..4 if early => return with_call(request, number::FINALIZE),
-            4..20 => return with_call(request, number::TRACK),
+            1..=3 if early => return with_call(request, number::FINALIZE),
+            4..=19 => return with_call(request, number::TRACK),
             _ => {}
         }
         let level = self.one_of([0, 0, 0, 0, 1, 2, 3]);
@@ -121,7 +120,7 @@ impl<'a> Requests<'a> {
         Request {
             call,
             gpa: Gpa(gpa >> low << low),
-            level: Level(last.level as usize),
+            level: Level(last.level),
             ..request
         }
     }
@@ -147,8 +146,8 @@ impl<'a> Requests<'a> {
 
     fn domain(&mut self, tdr: Option<usize>) -> Hpa {
         match (tdr, self.rng.below(100)) {
-            (Some(tdr), 0..90) => self.hpa(tdr),
-            (_, 0..96) => self.any_frame(),
+            (Some(tdr), 0..=89) => self.hpa(tdr),
+            (_, 0..=95) => self.any_frame(),
             _ => self.no_frame(),
         }
     }
@@ -156,12 +155,12 @@ impl<'a> Requests<'a> {
     fn frame(&mut self, call: u64) -> Hpa {
         let wants_used = call == number::RECLAIM || call == number::READPAGE;
         match self.rng.below(100) {
-            0..85 if wants_used => match self.frame_of(|kind| kind != frame_type::NDA) {
+            0..=84 if wants_used => match self.frame_of(|kind| kind != frame_type::NDA) {
                 Some(frame) => self.hpa(frame),
                 None => self.any_frame(),
             },
-            0..85 => self.free_frame(),
-            85..94 => self.any_frame(),
+            0..=84 => self.free_frame(),
+            85..=93 => self.any_frame(),
             _ => self.no_frame(),
         }
     }

@@ -1,28 +1,11 @@
-//! The two sides of a comparison, and what differs between them.
+//! The twin's side of a comparison, and what differs between the two.
 
 use std::fmt::Debug;
 
-use reefnettle::raw::{number, Answer, Request};
-use reefnettle::{Hpa, Level, Model, Parts};
+use reefnettle_compare::{number, Answer, Hpa, Level, Outcome, Parts, Request};
 use reefnettle_twin::{Call, Machine, Readout};
 
 use crate::layout;
-
-/// What a request comes to: its answer, and the lent words after it.
-pub struct Outcome {
-    pub answer: Answer,
-    pub lent: Parts,
-}
-
-/// The library's side.
-pub fn ask_library(lent: &Parts, request: &Request) -> Outcome {
-    let mut model = Model::from_parts(lent.clone());
-    let answer = model.ask_raw(*request);
-    Outcome {
-        answer,
-        lent: model.into_parts(),
-    }
-}
 
 /// The twin's side. What the twin has no words for is judged here: a call that
 /// there isn't, lengths that fit no sizes, and spare bits of the stock.
@@ -67,7 +50,7 @@ fn run_twin(machine: &mut Machine, request: &Request) -> reefnettle_twin::Answer
 
 fn twin_call(request: &Request) -> Call {
     let (domain, page) = (request.domain.0, request.frame.0);
-    let (gpa, level) = (request.gpa.0, request.level.0 as u64);
+    let (gpa, level) = (request.gpa.0, request.level.0);
     match request.call {
         number::CREATE => {
             let key = request.key.0;
@@ -108,7 +91,7 @@ fn numbers_of(answer: reefnettle_twin::Answer) -> Answer {
     match answer.readout {
         Readout::Zeros => plain,
         Readout::Stop { level, state } => Answer {
-            level: Level(level as usize),
+            level: Level(level),
             state,
             ..plain
         },
@@ -118,7 +101,7 @@ fn numbers_of(answer: reefnettle_twin::Answer) -> Answer {
             ..plain
         },
         Readout::Entry { level, state, hpa } => Answer {
-            level: Level(level as usize),
+            level: Level(level),
             state,
             hpa: Hpa(hpa),
             ..plain
@@ -148,6 +131,10 @@ fn differ<T: PartialEq + Debug>(name: &str, library: &T, twin: &T) -> Option<Str
 }
 
 fn differ_in<T: PartialEq + Debug>(name: &str, library: &[T], twin: &[T]) -> Option<String> {
+    // Most often nothing does, and that is seen faster at once.
+    if library == twin {
+        return None;
+    }
     let words = library.iter().zip(twin).enumerate();
     words
         .filter(|(_, (a, b))| a != b)

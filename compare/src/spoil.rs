@@ -1,12 +1,11 @@
 //! What is done to reached tables before they are lent.
 
-use reefnettle::raw::Request;
-use reefnettle::{Gauge, Hpa, Parts};
+use reefnettle_compare::{Gauge, Hpa, Parts, Request};
 use reefnettle_twin::{Machine, Rng, BASE_HIGHEST, BASE_LOWEST, ENTRIES, FRAME_BYTES};
 
 use crate::damage::Damage;
 use crate::floats;
-use crate::layout::{self, RECORD_WORDS, WORD_BITS};
+use crate::layout::{self, RECORD_WORDS};
 
 /// A way to spoil lent words, or not to.
 #[derive(Clone, Copy, Debug, PartialEq, Eq, PartialOrd, Ord)]
@@ -186,7 +185,7 @@ pub fn junk(rng: &mut Rng) -> Parts {
         base: Hpa(base),
         frames: (0..frames).map(|_| rng.bits()).collect(),
         domains: (0..RECORD_WORDS * records).map(|_| rng.bits()).collect(),
-        stock: (0..blocks.div_ceil(WORD_BITS))
+        stock: (0..layout::stock_words(blocks))
             .map(|_| rng.bits())
             .collect(),
         entries: (0..ENTRIES * blocks).map(|_| rng.bits() as u32).collect(),

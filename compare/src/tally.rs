@@ -3,7 +3,7 @@
 use std::collections::BTreeMap;
 use std::fmt::Display;
 
-use reefnettle::raw::number;
+use reefnettle_compare::number;
 
 use crate::places::Place;
 use crate::spoil::Spoil;

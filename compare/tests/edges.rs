@@ -1,8 +1,9 @@
 //! Cases on the edge of answer 13 and of the walk, on a small lent state as it
 //! is and with one place changed. What is expected was written from the paper.
 
-use reefnettle::raw::{number, Answer, Request};
-use reefnettle::{Gauge, Gpa, Hpa, Level, Model, Parts, FRAME_BYTES};
+mod common;
+
+use reefnettle_compare::{number, Answer, Gauge, Gpa, Hpa, Level, Parts, Request, FRAME_BYTES};
 
 const BASE: Hpa = Hpa(1 << 30);
 
@@ -72,6 +73,15 @@ fn small() -> Parts {
     put_entry(&mut lent, 1, 3, NL_MAPPED, 7);
     put_entry(&mut lent, 2, 4, MAPPED, 8);
     lent
+}
+
+/// Looks at every lent word and reads the TDR.
+fn read_tdr() -> Request {
+    Request {
+        call: number::READPAGE,
+        frame: at(0),
+        ..Request::default()
+    }
 }
 
 /// What is changed, how, and whether the state is still in range.
@@ -194,24 +204,22 @@ const CASES: [Case; 43] = [
 
 #[test]
 fn answer_13_is_given_exactly_out_of_range() {
+    let mut door = common::open_door();
     for (what, change, in_range) in CASES {
         let mut lent = small();
         change(&mut lent);
-        let answer = Model::from_parts(lent).ask_raw(Request {
-            call: number::READPAGE,
-            frame: at(0),
-            ..Request::default()
-        });
+        let answer = door.ask(&lent, &read_tdr()).unwrap().answer;
         assert_eq!(answer.number, if in_range { 0 } else { 13 }, "{what}");
     }
 }
 
 #[test]
 fn the_fill_counts_the_frames_that_arent_nda() {
-    let used = |lent: Parts| {
-        let mut model = Model::from_parts(lent);
-        model.readpage(at(0)).unwrap();
-        model.gauge().fill * 512.0
+    let mut door = common::open_door();
+    let mut used = |lent: Parts| {
+        let read = door.ask(&lent, &read_tdr()).unwrap();
+        assert_eq!(read.answer.number, 0);
+        read.lent.gauge.fill * 512.0
     };
     assert_eq!(used(small()), 9.0);
     let mut lent = small();
@@ -220,7 +228,7 @@ fn the_fill_counts_the_frames_that_arent_nda() {
 }
 
 /// What an entry reads: accepted, with its level, state and frame.
-fn arrives(level: usize, state: u32, frame: u64) -> Answer {
+fn arrives(level: u64, state: u32, frame: u64) -> Answer {
     Answer {
         level: Level(level),
         state: state.into(),
@@ -230,7 +238,7 @@ fn arrives(level: usize, state: u32, frame: u64) -> Answer {
 }
 
 /// A walk that stops above its level: 6, with the level and state there.
-fn stops(level: usize, state: u32) -> Answer {
+fn stops(level: u64, state: u32) -> Answer {
     Answer {
         number: 6,
         level: Level(level),
@@ -249,17 +257,19 @@ fn foreign() -> Answer {
 
 /// Reads the entry on the page's way at each level, from the root's down.
 fn walks(change: fn(&mut Parts), answers: [Answer; 4]) {
+    let mut door = common::open_door();
     for (level, answer) in [3, 2, 1, 0].into_iter().zip(answers) {
         let mut lent = small();
         change(&mut lent);
         let low = 12 + 9 * level;
-        let read = Model::from_parts(lent).ask_raw(Request {
+        let request = Request {
             call: number::READENTRY,
             domain: at(0),
             gpa: Gpa(PAGE.0 >> low << low),
             level: Level(level),
             ..Request::default()
-        });
+        };
+        let read = door.ask(&lent, &request).unwrap().answer;
         assert_eq!(read, answer, "level {level}");
     }
 }

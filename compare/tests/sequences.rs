@@ -3,8 +3,11 @@
 //! lines beside this file were written from the paper. Frames 512, records 2,
 //! tables 4; the domain is at frame 0 where nothing else is said.
 
-use reefnettle::raw::{number, Answer, Request};
-use reefnettle::{Gauge, Gpa, Hpa, Key, Level, Model, Parts, FRAME_BYTES};
+mod common;
+
+use reefnettle_compare::{
+    number, Answer, Door, Gauge, Gpa, Hpa, Key, Level, Outcome, Parts, Request, FRAME_BYTES,
+};
 
 const LINES: &str = include_str!("sequences.lines");
 
@@ -489,23 +492,21 @@ fn sequences() -> Vec<(&'static str, Vec<Step>)> {
 }
 
 /// The ask's answer. A refusal must leave every word and the gauge as they were.
-fn answered(parts: &mut Parts, request: Request) -> Answer {
-    let before = parts.clone();
-    let mut model = Model::from_parts(before.clone());
-    let answer = model.ask_raw(request);
-    *parts = model.into_parts();
+fn answered(door: &mut Door, parts: &mut Parts, request: Request) -> Answer {
+    let Outcome { answer, lent } = door.ask(parts, &request).unwrap();
     assert!(
-        answer.number == 0 || *parts == before,
+        answer.number == 0 || lent == *parts,
         "{request:?} changed something"
     );
+    *parts = lent;
     answer
 }
 
 /// What is told of a step; nothing if it isn't asked, or only asked.
-fn taken(parts: &mut Parts, step: Step) -> Option<Answer> {
+fn taken(door: &mut Door, parts: &mut Parts, step: Step) -> Option<Answer> {
     match step {
-        Step::Told(request) => return Some(answered(parts, request)),
-        Step::Quiet(request) => drop(answered(parts, request)),
+        Step::Told(request) => return Some(answered(door, parts, request)),
+        Step::Quiet(request) => drop(answered(door, parts, request)),
         Step::Frame(frame, word) => parts.frames[frame] = word,
         Step::Record(word) => parts.domains[0] = word,
         Step::Stock(word) => parts.stock[0] = word,
@@ -519,7 +520,7 @@ fn taken(parts: &mut Parts, step: Step) -> Option<Answer> {
         }
         Step::ResetAt(base) => {
             parts.base = base;
-            let answer = answered(parts, Request::default());
+            let answer = answered(door, parts, Request::default());
             parts.base = BASE;
             return Some(answer);
         }
@@ -542,7 +543,7 @@ fn line(sequence: &str, step: usize, answer: Answer, parts: &Parts) -> String {
         ("answer", number),
         ("type", kind),
         ("owner", owner.0),
-        ("level", level.0 as u64),
+        ("level", level.0),
         ("state", state),
         ("hpa", hpa.0),
         ("used", used as u64),
@@ -566,12 +567,13 @@ fn the_sequences_are_answered_as_the_paper_says() {
         entries: vec![0; 3072],
         gauge: Gauge::FRESH,
     };
+    let mut door = common::open_door();
     let mut expected = LINES.lines();
     let mut met = [false; 15];
     for (name, steps) in sequences() {
         let mut told = 0;
         for step in steps {
-            let Some(answer) = taken(&mut parts, step) else {
+            let Some(answer) = taken(&mut door, &mut parts, step) else {
                 continue;
             };
             let ours = line(name, told, answer, &parts);
