@@ -19,46 +19,43 @@ function limits(   level) {
 }
 
 function names() {
-    name_codes("type", "NDA TDR TDCX EPT REG")
-    name_codes("lifecycle", "HKID_assigned keys_configured blocked teardown")
-    name_codes("op state", "uninitialized initialized runnable")
-    name_codes("state", "FREE NL_MAPPED MAPPED PENDING NL_BLOCKED BLOCKED PENDING_BLOCKED")
+    name_codes("type", "NDA,TDR,TDCX,EPT,REG")
+    name_codes("lifecycle", "HKID assigned,keys configured,blocked,teardown")
+    name_codes("op state", "uninitialized,initialized,runnable")
+    name_codes("state", "FREE,NL_MAPPED,MAPPED,PENDING,NL_BLOCKED,BLOCKED,PENDING_BLOCKED")
     NDA = 0; TDR = 1; TDCX = 2; EPT = 3; REG = 4
     BLOCKED = 2; TEARDOWN = 3; FREE = 0; NL_MAPPED = 1; BLOCKING = 3
     UNIT["D"] = UNIT["F"] = "hpa"; UNIT["G"] = "gpa"; UNIT["L"] = "level"; UNIT["K"] = "key"
     IS_UNIT["hpa"] = IS_UNIT["gpa"] = IS_UNIT["level"] = IS_UNIT["key"] = 1
 }
 
-function name_codes(unit, words,   n, word, i) {
-    n = split(words, word, " ")
-    for (i = 1; i <= n; i++) {
-        if (unit == "lifecycle") sub(/_/, " ", word[i])
-        NAME[unit, i - 1] = word[i]
-    }
+function name_codes(unit, list,   n, name, i) {
+    n = split(list, name, ",")
+    for (i = 1; i <= n; i++) NAME[unit, i - 1] = name[i]
 }
 
 # The paper's table of calls. Codes are digits, any of which will do; "live" is lifecycle 1, pages 4, op state 1 or 2. BECOMES is the code that
 # the lifecycle, the op state or the new entry's state goes to.
 function rules() {
-    #    call          operands   lowest lifecycle pages op state entry     becomes further
-    rule("create",     "F K",     "",    "",       "",   "",      "",        0,     "free key record")
-    rule("keyconfig",  "D",       "",    "0",      "",   "",      "",        1,     "")
-    rule("addcx",      "D F",     "",    "1",      "0123", "",    "",        "",    "free")
-    rule("init",       "D",       "",    "1",      "4",  "0",     "",        1,     "")
-    rule("septadd",    "D G L F", 1,     "1",      "4",  "12",    "0",       1,     "free table")
-    rule("pageadd",    "D G F",   0,     "1",      "4",  "1",     "0",       2,     "free")
-    rule("finalize",   "D",       "",    "1",      "4",  "1",     "",        2,     "")
-    rule("pageaug",    "D G F",   0,     "1",      "4",  "2",     "0",       3,     "free")
-    rule("block",      "D G L",   0,     "1",      "4",  "12",    "123",     "",    "")
-    rule("track",      "D",       "",    "1",      "4",  "12",    "",        "",    "")
-    rule("unblock",    "D G L",   0,     "1",      "4",  "12",    "456",     "",    "tracked")
-    rule("pageremove", "D G",     0,     "1",      "4",  "12",    "56",      "",    "tracked")
-    rule("septremove", "D G L",   1,     "1",      "4",  "12",    "4",       "",    "tracked empty")
-    rule("flushdone",  "D",       "",    "01",     "",   "",      "",        2,     "")
-    rule("keyfree",    "D",       "",    "2",      "",   "",      "",        3,     "")
-    rule("reclaim",    "F",       "",    "3",      "",   "",      "",        "",    "")
-    rule("readpage",   "F",       "",    "",       "",   "",      "",        "",    "")
-    rule("readentry",  "D G L",   0,     "1",      "4",  "12",    "0123456", "",    "")
+    #    call          operands   lowest lifecycle pages   op state entry      becomes further
+    rule("create",     "F K",     "",    "",       "",     "",      "",        0,      "free key record")
+    rule("keyconfig",  "D",       "",    "0",      "",     "",      "",        1,      "")
+    rule("addcx",      "D F",     "",    "1",      "0123", "",      "",        "",     "free")
+    rule("init",       "D",       "",    "1",      "4",    "0",     "",        1,      "")
+    rule("septadd",    "D G L F", 1,     "1",      "4",    "12",    "0",       1,      "free table")
+    rule("pageadd",    "D G F",   0,     "1",      "4",    "1",     "0",       2,      "free")
+    rule("finalize",   "D",       "",    "1",      "4",    "1",     "",        2,      "")
+    rule("pageaug",    "D G F",   0,     "1",      "4",    "2",     "0",       3,      "free")
+    rule("block",      "D G L",   0,     "1",      "4",    "12",    "123",     "",     "")
+    rule("track",      "D",       "",    "1",      "4",    "12",    "",        "",     "")
+    rule("unblock",    "D G L",   0,     "1",      "4",    "12",    "456",     "",     "tracked")
+    rule("pageremove", "D G",     0,     "1",      "4",    "12",    "56",      "",     "tracked")
+    rule("septremove", "D G L",   1,     "1",      "4",    "12",    "4",       "",     "tracked empty")
+    rule("flushdone",  "D",       "",    "01",     "",     "",      "",        2,      "")
+    rule("keyfree",    "D",       "",    "2",      "",     "",      "",        3,      "")
+    rule("reclaim",    "F",       "",    "3",      "",     "",      "",        "",     "")
+    rule("readpage",   "F",       "",    "",       "",     "",      "",        "",     "")
+    rule("readentry",  "D G L",   0,     "1",      "4",    "12",    "0123456", "",     "")
 }
 
 function rule(name, operands, lowest, lifecycles, pages, op_states, states, becomes, further) {
