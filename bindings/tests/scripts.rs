@@ -42,13 +42,13 @@ fn replay(script: &str) -> Result<String, Refusal> {
 fn scripts_answer_as_written() {
     // Cargo runs tests in the package's folder.
     let repository = Path::new("..");
-    for script in [
-        "lessons/1-create",
-        "lessons/2-pages",
-        "lessons/3-teardown",
-        "tests/edges",
+    for (script, answers) in [
+        ("lessons/1-create.txt", "lessons/keys/1-create.answers"),
+        ("lessons/2-pages.txt", "lessons/keys/2-pages.answers"),
+        ("lessons/3-teardown.txt", "lessons/keys/3-teardown.answers"),
+        ("tests/edges.txt", "tests/edges.answers"),
     ] {
-        let read = |end| fs::read_to_string(repository.join(script).with_extension(end)).unwrap();
-        assert_eq!(replay(&read("txt")), Ok(read("answers")), "{script}");
+        let read = |name| fs::read_to_string(repository.join(name)).unwrap();
+        assert_eq!(replay(&read(script)), Ok(read(answers)), "{script}");
     }
 }
