@@ -1,5 +1,5 @@
 -- Every marked case answers as the paper says.
-use mathlib.Core.Path.{_≡_, refl, ap, subst, _∙_}
+use mathlib.Core.Path.{_≡_, refl, ap, _∙_}
 use mathlib.Core.Bool.{true}
 use mathlib.Core.List.{List, [], _∷_}
 use lib.ListN.{length}
@@ -30,11 +30,10 @@ use Rattle.adds.specs.Adds.{septAt, septaddPlan, pagePlan}
 use Rattle.trees.specs.Trees.{blockAt, blockPlan, pageremoveAt, pageremovePlan}
 use Rattle.pages.specs.Pages.{readpagePlan}
 use Rattle.carry.specs.Carry.{afterFrame, afterPage, afterDomain, afterEntry, afterUse, afterRecord, afterBlock, applied, carried}
-use Rattle.host.specs.Calls.{Outcome, planOf, settled, ruleOf, callOf, resetOf}
-use Rattle.ownership.specs.Reached as reached
-use Rattle.ownership.specs.Reached.{Lists, leftBy}
-use Rattle.ownership.proofs.Ranged.{of-lent}
-use Rattle.ownership.proofs.Demand.{Standing, called-well, standing}
+use Rattle.host.specs.Calls.{planOf, settled, ruleOf, callOf}
+use Rattle.keeps.proofs.Ranged.{of-lent}
+use Rattle.keeps.proofs.Fresh.{zeros-lent}
+use Rattle.keeps.proofs.Keeps.{rule-keeps}
 use Rattle.cases.specs.Cases.{base, fresh, run, Case, Right, AllRight, line1, line2, line3, line4, line6, line7, line8, line9, gpaFits1, gpaUnaligned, gpaTooBig, notTracked, trackedNow, marked}
 
 -- where 13 has nothing to say, the answer is the plan's
@@ -43,28 +42,19 @@ past-13 : (t : Tables) (g : Gauge) (c : Call) → length (t .frames) ≡ 1024 �
 unfolding callOf ruleOf settled iff
 past-13 t g c n l r k = rw (l, r, k, n, program-ok)
 
--- ---- and it has nothing to say of the tables on the way: no call from a fresh start leaves them out of range
-module _ {t : Tables} {g : Gauge} {l : Lists} (s : Standing base t g l) (c : Call) where
-  by-rule : callOf base t g c ≡ settled g (carried t (planOf base t c))
-  unfolding callOf ruleOf iff
-  by-rule = rw (of-lent base t (s .state .lent), s .marks)
+-- ---- and it has nothing to say of the tables on the way: no call leaves tables out of range that were in it
+run-ok : (t : Tables) → lentOk base t ≡ true → (cs : List Call) → lentOk base (run t cs) ≡ true
+unfolding run ruleOf settled
+run-ok t ok [] = ok
+run-ok t ok (c ∷ cs) = run-ok (carried t (planOf base t c) .tables) (rule-keeps base t ok reset c) cs
 
-  next : Standing base (carried t (planOf base t c) .tables) (settled g (carried t (planOf base t c)) .gauge) (leftBy base t c (settled g (carried t (planOf base t c))) l)
-  unfolding settled
-  next = subst (λ (o : Outcome). Standing base (o .tables) (o .gauge) (leftBy base t c o l)) by-rule (called-well base t g l s c .standing)
-
-run-ok : {t : Tables} {g : Gauge} {l : Lists} → Standing base t g l → (cs : List Call) → lentOk base (run t cs) ≡ true
-unfolding run
-run-ok {t} s [] = of-lent base t (s .state .lent)
-run-ok s (c ∷ cs) = run-ok (next s c) cs
-
-start : Standing base fresh reset (λ e. [])
-unfolding resetOf sizesOk sizesOf tablesOf lengthsOk framesOk baseOk between ones given iff valuesOf
-start = standing (reached.fresh fresh reset refl)
+start : lentOk base fresh ≡ true
+unfolding sizesOk sizesOf tablesOf lengthsOk framesOk baseOk between ones given iff
+start = of-lent base fresh (zeros-lent base fresh refl)
 
 checked : (c : Case) → length (run fresh (c .before) .frames) ≡ 1024
     → valuesOf (carried (run fresh (c .before)) (planOf base (run fresh (c .before)) (c .then)) .answer) ≡ c .says → Right c
-checked c n e = λ g r k. ap valuesOf (past-13 (run fresh (c .before)) g (c .then) n (run-ok start (c .before)) r k) ∙ e
+checked c n e = λ g r k. ap valuesOf (past-13 (run fresh (c .before)) g (c .then) n (run-ok fresh start (c .before)) r k) ∙ e
 
 -- Every marked case of the paper answers as it says.
 pub marked-right : AllRight marked

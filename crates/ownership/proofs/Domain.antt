@@ -10,11 +10,10 @@ use Rattle.ledger.specs.Codes.{TDCX, EPT}
 use Rattle.ledger.specs.declared.words.Frame.{Frame}
 use Rattle.ledger.specs.declared.words.Domain.{Domain}
 use Rattle.ledger.specs.declared.words.Entry.{Entry}
-use Rattle.ownership.specs.Owned.{Found, found, Tree, table, walk, times, same, one}
-use Rattle.ownership.specs.Owned.{Extent, View, rootOf, shapeOf, tree, controls, treeOf, finds, mine, Owns, Block, root, below, Untouched}
-use Rattle.ownership.specs.Owned.{kind, owner, number, life, listed, children, shape, points}
+use Rattle.keeps.specs.Views.{View, kind, owner, number, life, listed, children}
+use Rattle.ownership.specs.Owned.{Found, found, table, walk, times, same, one, Extent, rootOf, shapeOf, tree, controls, treeOf, finds, mine, Owns, Block, root, below, Untouched, shape, points}
 use Rattle.ownership.proofs.Sums.{size, size-length, weight-append, each-cong}
-use Rattle.ownership.proofs.Walk.{table-le, times-self, Alike, same-walk}
+use Rattle.ownership.proofs.Walk.{table-le, times-self, same-walk}
 
 -- ---- what two states have alike, taken apart
 
@@ -97,24 +96,14 @@ module _ (z : Extent) (s : View) (d : ℕ) where
   unfolding finds
   home o = record { block = root refl; all = λ x h. mine-one s d x (omega (arith, o .once x, h, weight-append (λ y. one (same x y)) (controls s d) (treeOf z s d))) }
 
-  table-mine : (n b i : ℕ) → Home (suc n) b → i < z .wide → shape s b i ≡ table → Mine s d (found (points s b i) EPT)
+  pub table-mine : (n b i : ℕ) → Home (suc n) b → i < z .wide → shape s b i ≡ table → Mine s d (found (points s b i) EPT)
   table-mine n b i h k e = h .all (found (points s b i) EPT)
       (omega (arith, table-le (λ y. one (same (found (points s b i) EPT) y)) (tree s) (z .wide) n b i k e, times-self (found (points s b i) EPT)))
 
-  -- a tree that is the same on d's blocks and has d's tables where they were
-  pub alike : (t′ : Tree)
-      → ((b i : ℕ) → Block z s d b → i < z .wide → (t′ .shape b i ≡ shape s b i) × (t′ .points b i ≡ points s b i))
-      → ((g : ℕ) → kind s g ≡ EPT → owner s g ≡ d → t′ .below g ≡ number s g)
-      → Alike (tree s) t′ (z .wide) Home
-  alike t′ e g = record {
-    shape = λ n b i h k. e b i (h .block) k .0;
-    points = λ n b i h k. e b i (h .block) k .1;
-    below = λ n b i h k sh. let m = table-mine n b i h k sh in g (points s b i) (m .kind) (m .owner);
-    closed = λ n b i h k sh. let m = table-mine n b i h k sh in
-        record {
-          block = below (points s b i) (m .kind) (m .owner) refl;
-          all = λ x l. h .all x (omega (arith, l, table-le (λ y. one (same x y)) (tree s) (z .wide) n b i k sh));
-        };
+  pub home-below : (n b i : ℕ) → Home (suc n) b → i < z .wide → shape s b i ≡ table → Home n (number s (points s b i))
+  home-below n b i h k e = let m = table-mine n b i h k e in record {
+    block = below (points s b i) (m .kind) (m .owner) refl;
+    all = λ x l. h .all x (omega (arith, l, table-le (λ y. one (same x y)) (tree s) (z .wide) n b i k e));
   }
 
 -- ---- a domain left alone
@@ -124,10 +113,14 @@ pub kept-walk : (z : Extent) (s s′ : View) (d : ℕ) → number s′ d ≡ num
     → ((b i : ℕ) → Block z s d b → i < z .wide → (shape s′ b i ≡ shape s b i) × (points s′ b i ≡ points s b i))
     → ((g : ℕ) → kind s g ≡ EPT → owner s g ≡ d → number s′ g ≡ number s g)
     → Owns s d (finds z s d) → treeOf z s′ d ≡ treeOf z s d
-kept-walk z s s′ d e en nu o =
-    rw e
+kept-walk z s s′ d e en nu o = rw e
     (same-walk (tree s) (tree s′) (z .wide) (Home z s d)
-    (alike z s d (tree s′) en nu)
+    (record {
+      shape = λ n b i h k. en b i (h .block) k .0;
+      points = λ n b i h k. en b i (h .block) k .1;
+      below = λ n b i h k sh. let m = table-mine z s d n b i h k sh in nu (points s b i) (m .kind) (m .owner);
+      closed = λ n b i h k sh. home-below z s d n b i h k sh;
+    })
     (z .deep) (rootOf z s d) (home z s d o))
 
 module _ (z : Extent) (s s′ : View) (e : ℕ) (u : Untouched z s s′ e) where

@@ -9,12 +9,14 @@ use native.Mathlib.Decide.{ℕ-discrete}
 use lib.Dec.{eqb, ltb}
 use borrow.Author.Tests.{eq-eqb, ne-eqb}
 use Rattle.ledger.specs.Codes.{TDR}
-use Rattle.ownership.specs.Owned.{Found, found, Tree, Shape, branch, walk, weight, times, same, one, both, Extent, View, rootOf, tree, mine, Owns, Keyed, Belongs, kind, owner, number, children, shape, points}
+use Rattle.keeps.specs.Views.{View, kind, owner, number, children}
+use Rattle.ownership.specs.Owned.{Found, found, Tree, Shape, branch, walk, weight, times, same, one, both, Extent, rootOf, tree, mine, Owns, Keyed, Belongs, shape, points}
+use Rattle.ownership.specs.Reached.{Lists}
 use Rattle.ownership.proofs.Sums.{size, weight-mono, weight-zero, one-le, sum, sum-mono, sum-zero, sum-add, term-le-sum}
 use Rattle.ownership.proofs.Walk.{Path·to, here, down, limb-le, table-le, times-self}
 use Rattle.ownership.proofs.Domain.{Mine, Mine?, is, not, mine-one, mine?, owns-size}
-use Rattle.ownership.proofs.Sound.{Sound, walk-mine}
-use Rattle.ownership.proofs.Common.{Fits, fits-table, fits-page}
+use Rattle.ownership.proofs.Sound.{held, Sound, walk-mine}
+use Rattle.ownership.proofs.Cases.{Fits, fits-table, fits-page}
 
 -- ---- what stands at the end of a path is found
 
@@ -27,10 +29,10 @@ path-finds : (q : Found → ℕ) (t : Tree) (w c j ty : ℕ) → j < w → Fits 
 path-finds q t w c j ty jw ft (here {n}) = le-trans (fits-le q (t .points c j) (walk t w n (t .below (t .points c j))) ft) (limb-le q t w n c j jw)
 path-finds q t w c j ty jw ft (down {n} {b} i iw sh p) = omega (arith, path-finds q t w c j ty jw ft p, table-le q t w n b i iw sh)
 
-module _ (z : Extent) (s : View) (h : ℕ → List Found) (ok : Sound z s h) (d : ℕ) where
+module _ (z : Extent) (s : View) (l : Lists) (ok : Sound z s l) (d : ℕ) where
   pub entry-mine : Keyed s d → (c j ty : ℕ) → j < z .wide → Fits (shape s c j) ty → Path·to (tree s) (z .wide) c (z .deep) (rootOf z s d) → Mine s d (found (points s c j) ty)
   entry-mine kd c j ty jw ft p = let x = found (points s c j) ty in
-      walk-mine z s h ok d kd x (omega (arith, path-finds (λ y. one (same x y)) (tree s) (z .wide) c j ty jw ft p, times-self x))
+      walk-mine z s l ok d kd x (omega (arith, path-finds (λ y. one (same x y)) (tree s) (z .wide) c j ty jw ft p, times-self x))
 
   -- who has a frame has a child
   pub has-child : (F : ℕ) → Belongs s d F → kind s d ≡ TDR → 1 ≤ children s (number s d)
@@ -39,11 +41,11 @@ module _ (z : Extent) (s : View) (h : ℕ → List Found) (ok : Sound z s h) (d 
       x : Found
       x = found F (kind s F)
 
-      o : Owns s d (h d)
+      o : Owns s d (held z s l d)
       o = ok .owns d k
 
       go : Mine? s d x → 1 ≤ children s (number s d)
-      go (is m e) = omega (arith, o .once x, e, owns-size o, weight-mono (λ y. one (same x y)) (λ y. 1) (h d) (λ y k. one-le (same x y)))
+      go (is m e) = omega (arith, o .once x, e, owns-size o, weight-mono (λ y. one (same x y)) (λ y. 1) (held z s l d) (λ y k. one-le (same x y)))
       go (not m e) = absurd (m (record { typed = b .type; kind = refl; owner = b .owner }))
 
 -- ---- how many frames a list of different frames can have

@@ -1,7 +1,7 @@
--- What every state after a fresh start has, from which demand 3 follows; what a call on one domain leaves of the others.
+-- What every state after a fresh start has, from which demand 3 follows.
 use mathlib.Core.Path.{_≡_, refl, sym, ap, _∙_, subst}
-use mathlib.Core.Bool.{Bool, true, false}
-use mathlib.Core.List.{List}
+use mathlib.Core.Bool.{true}
+use mathlib.Core.List.{List, []}
 use mathlib.Core.Logic.{_⊎_, inl, inr}
 use Prim.Native.Nat.{ℕ, _+_, _≤_, _<_}
 use native.Mathlib.Nat.{le-trans, le-antisymm}
@@ -9,37 +9,55 @@ use native.Mathlib.Omega.{arith}
 use native.Mathlib.Decide.{ℕ-discrete}
 use lib.Dec.{eqb, ltb}
 use borrow.Author.Tests.{eq-eqb, ne-eqb}
-use Rattle.ledger.specs.Codes.{TDR, TDCX, EPT}
-use Rattle.ledger.specs.declared.words.Domain.{Domain}
-use Rattle.ownership.specs.Owned.{Found, found, weight, times, same, one, both}
-use Rattle.ownership.specs.Owned.{Extent, View, rootOf, tree, controls, treeOf, finds, Owns, Keyed, Block, root, below, Belongs, Untouched}
-use Rattle.ownership.specs.Owned.{kind, owner, number, life}
-use Rattle.ownership.proofs.Sums.{weight-append, weight-mono, weight-zero, one-le}
+use Rattle.rules.specs.Rule.{iff}
+use Rattle.ledger.specs.Codes.{NDA, TDR, EPT, TEARDOWN}
+use Rattle.keeps.specs.Views.{View, kind, owner, number, life, children}
+use Rattle.ownership.specs.Owned.{Found, found, weight, times, same, one, both, Extent, rootOf, tree, controls, treeOf, finds, mine, Owns, Keyed, Block, root, below}
+use Rattle.ownership.specs.Always.{Numbered, a-record, a-table, blockOf}
+use Rattle.ownership.specs.Reached.{Lists}
+use Rattle.ownership.proofs.Sums.{size, weight-append, weight-mono, weight-zero, one-le}
 use Rattle.ownership.proofs.Walk.{reads, leads, reads-bound, Path·to, reads-path, path-last}
-use Rattle.ownership.proofs.Domain.{Mine, home, SameFrame, same-frame, SameEntry, SameRecord, untouched-owns, untouched-finds}
+use Rattle.ownership.proofs.Domain.{Mine, Mine?, is, not, mine?, home, owns-size}
 
--- the types whose number means a record or a table, and the block of that
-pub data Numbered : ℕ → Type 0 where
-  a-record : Numbered TDR
-  a-table : Numbered EPT
+-- What domain d has: what is found while it holds its key, then what is left; nothing where there is no such domain. And its child count.
+pub held : Extent → View → Lists → Lists
+held z s l d = iff (eqb (kind s d) TDR) (iff (eqb (life s (number s d)) TEARDOWN) (l d) (finds z s d)) []
 
-abbrev pub blockOf : Extent → {k : ℕ} → Numbered k → ℕ → ℕ
-blockOf z a-record n = z .tables + n
-blockOf z a-table n = n
+pub childs : View → ℕ → ℕ
+childs s d = iff (eqb (kind s d) TDR) (children s (number s d)) 0
 
--- h d: the frames of domain d. While it holds its key they are what a new walk finds.
-pub record Sound (z : Extent) (s : View) (h : ℕ → List Found) : Type 0 where
-  pub owns : (d : ℕ) → kind s d ≡ TDR → Owns s d (h d)
-  pub keyed : (d : ℕ) → Keyed s d → h d ≡ finds z s d
+module _ (z : Extent) (s : View) (l : Lists) (d : ℕ) where
+  pub held-key : Keyed s d → held z s l d ≡ finds z s d
+  unfolding held iff
+  held-key k = rw (eq-eqb (kind s d) TDR (k .tdr), ne-eqb (life s (number s d)) TEARDOWN (k .held)) refl
+
+  pub held-freed : kind s d ≡ TDR → life s (number s d) ≡ TEARDOWN → held z s l d ≡ l d
+  unfolding held iff
+  held-freed k f = rw (eq-eqb (kind s d) TDR k, eq-eqb (life s (number s d)) TEARDOWN f) refl
+
+  pub held-none : (kind s d ≡ TDR → ⊥) → held z s l d ≡ []
+  unfolding held iff
+  held-none k = rw (ne-eqb (kind s d) TDR k) refl
+
+pub childs-tdr : (s : View) (d : ℕ) → kind s d ≡ TDR → childs s d ≡ children s (number s d)
+unfolding childs iff
+childs-tdr s d k = rw (eq-eqb (kind s d) TDR k) refl
+
+pub childs-none : (s : View) (d : ℕ) → (kind s d ≡ TDR → ⊥) → childs s d ≡ 0
+unfolding childs iff
+childs-none s d k = rw (ne-eqb (kind s d) TDR k) refl
+
+pub record Sound (z : Extent) (s : View) (l : Lists) : Type 0 where
+  pub owns : (d : ℕ) → kind s d ≡ TDR → Owns s d (held z s l d)
   -- no two TDRs share a record, no two EPTs a table, and each is in use
   pub unique : (k f g : ℕ) → Numbered k → kind s f ≡ k → kind s g ≡ k → number s f ≡ number s g → f ≡ g
   pub used : (k f : ℕ) (nb : Numbered k) → kind s f ≡ k → s .used (blockOf z nb (number s f)) ≡ true
   pub tables : (g : ℕ) → kind s g ≡ EPT → number s g < z .tables
   pub owners : (f : ℕ) → TDR < kind s f → kind s (owner s f) ≡ TDR
 
-module _ (z : Extent) (s : View) (h : ℕ → List Found) (ok : Sound z s h) (d : ℕ) (kd : Keyed s d) where
+module _ (z : Extent) (s : View) (l : Lists) (ok : Sound z s l) (d : ℕ) (kd : Keyed s d) where
   pub owns-walk : Owns s d (finds z s d)
-  owns-walk = subst (λ (l : List Found). Owns s d l) (ok .keyed d kd) (ok .owns d (kd .tdr))
+  owns-walk = subst (λ (x : List Found). Owns s d x) (held-key z s l d kd) (ok .owns d (kd .tdr))
 
   pub walk-once : (x : Found) → times x (treeOf z s d) ≤ 1
   unfolding finds
@@ -97,30 +115,12 @@ module _ (z : Extent) (s : View) (h : ℕ → List Found) (ok : Sound z s h) (d 
       go (inl e) = root e
       go (inr r) = let m = walk-mine (found (r .0) EPT) (r .1) in below (r .0) (m .kind) (m .owner) (sym (r .2))
 
--- ---- a call on one domain
-
 -- block b is in nobody's tree
 pub record Spare (z : Extent) (s : View) (b : ℕ) : Type 0 where
   pub root : (e : ℕ) → kind s e ≡ TDR → b ≡ rootOf z s e → ⊥
   pub below : (g : ℕ) → kind s g ≡ EPT → b ≡ number s g → ⊥
 
-pub data Spot (z : Extent) (s s′ : View) (d b i : ℕ) : Type 0 where
-  same-spot : SameEntry s s′ b i → Spot z s s′ d b i
-  own-spot : kind s d ≡ TDR → Block z s d b → Spot z s s′ d b i
-  spare-spot : Spare z s b → Spot z s s′ d b i
-
--- A change on domain d alone: of frames only F, which is nobody else's before and after; of records only r; of entries only d's and spare ones.
-pub record Local (z : Extent) (s s′ : View) (d F r : ℕ) : Type 0 where
-  pub frames : (f : ℕ) → (f ≡ F → ⊥) → SameFrame s s′ f
-  pub tdr : (e : ℕ) → kind s e ≡ TDR → e ≡ F → e ≡ d
-  pub before : (e : ℕ) → Belongs s e F → e ≡ d
-  pub after : (e : ℕ) → Belongs s′ e F → e ≡ d
-  pub begun : kind s′ F ≡ TDR → F ≡ d
-  pub entries : (k : ℕ) → (k ≡ r → ⊥) → SameRecord s s′ k
-  pub entry : (e : ℕ) → kind s e ≡ TDR → number s e ≡ r → e ≡ d
-  pub spots : (b i : ℕ) → i < z .wide → Spot z s s′ d b i
-
-module _ (z : Extent) (s : View) (h : ℕ → List Found) (ok : Sound z s h) where
+module _ (z : Extent) (s : View) (l : Lists) (ok : Sound z s l) where
   -- two domains share no block
   pub apart : (d e b : ℕ) → kind s d ≡ TDR → kind s e ≡ TDR → Block z s d b → Block z s e b → d ≡ e
   apart d e b kd ke (root p) (root q) = ok .unique TDR d e a-record kd ke (omega arith)
@@ -128,107 +128,29 @@ module _ (z : Extent) (s : View) (h : ℕ → List Found) (ok : Sound z s h) whe
   apart d e b kd ke (below g k o p) (root q) = absurd (omega (arith, ok .tables g k))
   apart d e b kd ke (below g k o p) (below g′ k′ o′ q) = sym o ∙ ap (owner s) (ok .unique EPT g g′ a-table k k′ (omega arith)) ∙ o′
 
-  pub untouched : (s′ : View) (d F r : ℕ) → Local z s s′ d F r → (e : ℕ) → kind s e ≡ TDR → (e ≡ d → ⊥) → Untouched z s s′ e
-  untouched s′ d F r l e ke ne = record {
-    tdr = l .frames e (λ q. ne (l .tdr e ke q)) .frame;
-    record′ = l .entries (number s e) (λ q. ne (l .entry e ke q)) .domain;
-    pages = l .entries (number s e) (λ q. ne (l .entry e ke q)) .control;
-    kept = λ f b. l .frames f (λ q. ne (l .before e (subst (λ (x : ℕ). Belongs s e x) q b))) .frame;
-    gained = λ f b. back f (l .frames f (λ q. ne (l .after e (subst (λ (x : ℕ). Belongs s′ e x) q b)))) b;
-    tree = λ b i k w. at b i k (l .spots b i w) .entry;
-  }
+  -- a frame that is no TDR owns nothing
+  pub no-orphans : (d : ℕ) → (kind s d ≡ TDR → ⊥) → (x : Found) → mine s d x ≡ 0
+  no-orphans d k x = go (mine? s d x)
     where
-      back : (f : ℕ) → SameFrame s s′ f → Belongs s′ e f → Belongs s e f
-      back f q b = record { type = rw (q .kind) at (b .type); owner = sym (q .owner) ∙ b .owner }
+      go : Mine? s d x → mine s d x ≡ 0
+      go (is m e) = absurd (k (ap (kind s) (sym (m .owner)) ∙ ok .owners (x .frame) (rw (m .kind) (m .typed))))
+      go (not m e) = e
 
-      at : (b i : ℕ) → Block z s e b → Spot z s s′ d b i → SameEntry s s′ b i
-      at b i k (same-spot q) = q
-      at b i k (own-spot kd q) = absurd (ne (apart e d b ke kd k q))
-      at b i (root p) (spare-spot q) = absurd (q .root e ke p)
-      at b i (below g x o p) (spare-spot q) = absurd (q .below g x p)
+  -- what d has is d's, whether or not there is such a domain
+  pub holds : (d : ℕ) (x : Found) → times x (held z s l d) ≡ mine s d x
+  holds d x = go (ℕ-discrete (kind s d) TDR)
+    where
+      go : Dec (kind s d ≡ TDR) → times x (held z s l d) ≡ mine s d x
+      go (yes k) = ok .owns d k .once x
+      go (no k) = rw (held-none z s l d k) (unfold weight in sym (no-orphans d k x))
 
--- the record or table of a frame other than F stays in use
-abbrev pub Stock : Extent → View → View → ℕ → Type 0
-Stock z s s′ F = (k f : ℕ) (nb : Numbered k) → kind s f ≡ k → (f ≡ F → ⊥) → s .used (blockOf z nb (number s f)) ≡ true → s′ .used (blockOf z nb (number s f)) ≡ true
+  pub holds-size : (d : ℕ) → size (held z s l d) ≡ childs s d
+  holds-size d = go (ℕ-discrete (kind s d) TDR)
+    where
+      go : Dec (kind s d ≡ TDR) → size (held z s l d) ≡ childs s d
+      go (yes k) = owns-size (ok .owns d k) ∙ sym (childs-tdr s d k)
+      go (no k) = rw (held-none z s l d k, childs-none s d k) (unfold weight in refl)
 
-pub not-free : {k : ℕ} → Numbered k → k ≡ 0 → ⊥
+pub not-free : {k : ℕ} → Numbered k → k ≡ NDA → ⊥
 not-free a-record q = omega arith
 not-free a-table q = omega arith
-
-pub not-tdcx : {k : ℕ} → Numbered k → k ≡ TDCX → ⊥
-not-tdcx a-record q = omega arith
-not-tdcx a-table q = omega arith
-
--- What is left to show of a change on d: the frames of d itself, h′ d, and that what F has taken was not in use.
-pub record Own (z : Extent) (s s′ : View) (d F : ℕ) (l : List Found) : Type 0 where
-  pub owns : kind s′ d ≡ TDR → Owns s′ d l
-  pub keyed : Keyed s′ d → l ≡ finds z s′ d
-  pub unique : (k g : ℕ) → Numbered k → (g ≡ F → ⊥) → kind s′ F ≡ k → kind s g ≡ k → number s g ≡ number s′ F → ⊥
-  pub used : (k : ℕ) (nb : Numbered k) → kind s′ F ≡ k → s′ .used (blockOf z nb (number s′ F)) ≡ true
-  pub stock : Stock z s s′ F
-  pub tables : kind s′ F ≡ EPT → number s′ F < z .tables
-  pub owner : 1 < kind s′ F → kind s′ (owner s′ F) ≡ TDR
-  pub owned : (f : ℕ) → Belongs s F f → kind s F ≡ TDR → kind s′ F ≡ TDR
-
--- the frames of d are l, the others' as before
-abbrev pub swap : ℕ → List Found → (ℕ → List Found) → ℕ → List Found
-swap d l h e = pickList (eqb e d) l (h e)
-  where
-    pickList : Bool → List Found → List Found → List Found
-    pickList true a b = a
-    pickList false a b = b
-
-module _ (z : Extent) (s s′ : View) (h : ℕ → List Found) (ok : Sound z s h) (d F r : ℕ) (l : List Found) (lo : Local z s s′ d F r) (ow : Own z s s′ d F l) where
-  was-kind : (e k : ℕ) → (e ≡ F → ⊥) → kind s′ e ≡ k → kind s e ≡ k
-  was-kind e k ne q = sym (lo .frames e ne .kind) ∙ q
-
-  was-tdr : (e : ℕ) → (e ≡ d → ⊥) → kind s′ e ≡ TDR → kind s e ≡ TDR
-  was-tdr e ne q = was-kind e TDR (λ p. ne (p ∙ lo .begun (rw p at q))) q
-
-  pub sound : Sound z s′ (swap d l h)
-  sound = record {
-    owns = λ e k. owns′ e k (ℕ-discrete e d);
-    keyed = λ e k. keyed′ e k (ℕ-discrete e d);
-    unique = λ k f g m kf kg q. unique′ k f g m kf kg q (ℕ-discrete f F) (ℕ-discrete g F);
-    used = λ k f m kf. used′ k f m kf (ℕ-discrete f F);
-    tables = λ g k. tables′ g k (ℕ-discrete g F);
-    owners = λ f k. owners′ f k (ℕ-discrete f F);
-  }
-    where
-      owns′ : (e : ℕ) → kind s′ e ≡ TDR → Dec (e ≡ d) → Owns s′ e (swap d l h e)
-      owns′ e k (yes p) = rw (eq-eqb e d p, p) (ow .owns (rw p at k))
-      owns′ e k (no p) = rw (ne-eqb e d p)
-          (let ke = was-tdr e p k in untouched-owns z s s′ e (untouched z s h ok s′ d F r lo e ke p) (h e) (ok .owns e ke))
-
-      keyed′ : (e : ℕ) → Keyed s′ e → Dec (e ≡ d) → swap d l h e ≡ finds z s′ e
-      keyed′ e k (yes p) = rw (eq-eqb e d p, p) (ow .keyed (subst (λ (x : ℕ). Keyed s′ x) p k))
-      keyed′ e k (no p) = rw (ne-eqb e d p)
-          (let ke = was-tdr e p (k .tdr) in
-          let u = untouched z s h ok s′ d F r lo e ke p in
-          let kk : Keyed s e = record { tdr = ke; held = λ q. k .held (rw (same-frame s s′ e (u .tdr) .number) (ap (λ (x : Domain). x .life) (u .record′) ∙ q)) } in
-          ok .keyed e kk ∙ sym (untouched-finds z s s′ e u (owns-walk z s h ok e kk)))
-
-      unique′ : (k f g : ℕ) → Numbered k → kind s′ f ≡ k → kind s′ g ≡ k → number s′ f ≡ number s′ g → Dec (f ≡ F) → Dec (g ≡ F) → f ≡ g
-      unique′ k f g m kf kg q (yes a) (yes b) = a ∙ sym b
-      unique′ k f g m kf kg q (yes a) (no b) = absurd (ow .unique k g m b (rw a at kf) (was-kind g k b kg) (sym (lo .frames g b .number) ∙ sym q ∙ ap (number s′) a))
-      unique′ k f g m kf kg q (no a) (yes b) = absurd (ow .unique k f m a (rw b at kg) (was-kind f k a kf) (sym (lo .frames f a .number) ∙ q ∙ ap (number s′) b))
-      unique′ k f g m kf kg q (no a) (no b) = ok .unique k f g m (was-kind f k a kf) (was-kind g k b kg) (sym (lo .frames f a .number) ∙ q ∙ lo .frames g b .number)
-
-      used′ : (k f : ℕ) (nb : Numbered k) → kind s′ f ≡ k → Dec (f ≡ F) → s′ .used (blockOf z nb (number s′ f)) ≡ true
-      used′ k f m kf (yes a) = rw a (ow .used k m (rw a at kf))
-      used′ k f m kf (no a) = let kk = was-kind f k a kf in rw (lo .frames f a .number) (ow .stock k f m kk a (ok .used k f m kk))
-
-      owners′ : (f : ℕ) → 1 < kind s′ f → Dec (f ≡ F) → kind s′ (owner s′ f) ≡ TDR
-      owners′ f k (yes a) = rw a (ow .owner (rw a at k))
-      owners′ f k (no a) =
-          let sf = lo .frames f a in
-          let kf : 1 < kind s f = rw (sf .kind) at k in
-          rw (sf .owner) (still (ok .owners f kf) (ℕ-discrete (owner s f) F) (record { type = kf; owner = refl }))
-        where
-          still : kind s (owner s f) ≡ TDR → Dec (owner s f ≡ F) → Belongs s (owner s f) f → kind s′ (owner s f) ≡ TDR
-          still ko (yes b) bl = rw b (ow .owned f (rw b at bl) (rw b at ko))
-          still ko (no b) bl = lo .frames (owner s f) b .kind ∙ ko
-
-      tables′ : (g : ℕ) → kind s′ g ≡ EPT → Dec (g ≡ F) → number s′ g < z .tables
-      tables′ g k (yes p) = rw p (ow .tables (rw p at k))
-      tables′ g k (no p) = rw (lo .frames g p .number) (ok .tables g (was-kind g EPT p k))

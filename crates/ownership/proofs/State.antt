@@ -1,28 +1,21 @@
 -- What the domain, the walk and the entry of a call are in a sound state that answer 13 has nothing to say of: plan/specs' own lookups, once for all calls.
 use mathlib.Core.Path.{_≡_, refl, sym, ap, _∙_}
 use mathlib.Core.Bool.{Bool, true, true≢false}
-use Prim.Native.Nat.{ℕ, zero, suc, _+_, _-_, _/_, _<_, _≤_}
+use Prim.Native.Nat.{ℕ, zero, suc, _-_, _/_, _<_, _≤_}
 use native.Mathlib.Omega.{arith}
-use native.Mathlib.Decide.{decLt}
-use lib.Dec.{ltb}
 use lib.ListN.{length}
-use borrow.Author.Tests.{eqb-true, ltb-true, eq-eqb, lt-ltb}
+use borrow.Author.Tests.{eqb-true, eq-eqb}
 use Rattle.rules.specs.Rule.{iff, given}
-use Rattle.rules.proofs.Steps.{iff-both, both-left, both-right}
+use Rattle.rules.proofs.Steps.{iff-both}
 use Rattle.levels.specs.Level.{levels, topLevel, indexAt}
-use Rattle.units.specs.Limits.{tableEntries, recordWords}
+use Rattle.units.specs.Limits.{tableEntries}
 use Rattle.units.specs.declared.address.Hpa.{Hpa}
 use Rattle.units.specs.declared.address.Gpa.{Gpa}
 use Rattle.units.specs.declared.address.Pfn.{Pfn}
 use Rattle.stock.specs.Bits.{inUse}
 use Rattle.ledger.specs.Codes.{NDA, TDR, EPT, FREE, NL-MAPPED}
-use Rattle.range.specs.Range.{frameLimits}
-use Rattle.ledger.specs.Sizes.{tablesOf, rootOf}
 use Rattle.ledger.specs.Tables.{Tables}
-use Rattle.ledger.specs.declared.sizes.Sizes.{Sizes}
-use Rattle.ledger.specs.declared.words.Frame.{Frame}
 use Rattle.ledger.specs.declared.words.Entry.{Entry}
-use Rattle.ledger.proofs.Outside.{frame-out}
 use Rattle.walk.specs.Walk.{entryType, ownFrame, walkFrom, onWalk}
 use Rattle.walk.specs.declared.Walk.{Walk}
 use Rattle.walk.specs.declared.Walk.the-variants as walked
@@ -34,20 +27,24 @@ use Rattle.plan.specs.declared.lookup.Lookup.{Lookup}
 use Rattle.plan.specs.declared.lookup.Lookup.the-variants as lookup
 use Rattle.plan.specs.declared.entry.Reach.{Reach}
 use Rattle.plan.specs.declared.entry.Reach.the-variants as reach
-use Rattle.ownership.specs.Owned.{points, found, tree, Keyed, Belongs, kind, owner, number, life, children}
-use Rattle.ownership.specs.Owned.{rootOf as rootBlock}
-use Rattle.ownership.specs.Reached.{frame, view, extent, Lists}
+use Rattle.keeps.specs.Views.{kind, op, number, children, frame, view}
+use Rattle.ownership.specs.Owned.{points, found, tree, Keyed, Belongs, rootOf as rootBlock}
+use Rattle.ownership.specs.Reached.{extent, Lists}
 use Rattle.ownership.proofs.Walk.{Path·to, here, down}
 use Rattle.ownership.proofs.Domain.{Mine, owns-size}
-use Rattle.ownership.proofs.Sound.{Sound, a-record, a-table}
-use Rattle.ownership.proofs.Held.{held}
-use Rattle.ownership.proofs.Ranged.{between-true, both-of, RecordGood, sizesIn, Sized, sized, Lent}
+use Rattle.ownership.specs.Always.{a-record, a-table}
+use Rattle.ownership.proofs.Sound.{held, Sound}
+use Rattle.keeps.proofs.Ranged.{between-true, both-of, Lent}
+use Rattle.ownership.proofs.Tidy.{Tidy}
 use Rattle.ownership.proofs.Room.{entry-mine, has-child, child-room}
-use Rattle.ownership.proofs.Facts.{Mild, mild-no, mild-stop, table-shape, fits-state, DomainGood, domain-good}
+use Rattle.keeps.proofs.Facts.{in-window}
+use Rattle.keeps.proofs.Lookups.{record-low, root-is}
+use Rattle.ownership.proofs.Facts.{Mild, mild-no, mild-stop, table-shape, fits-state}
 
 pub record State (base : Hpa) (t : Tables) (l : Lists) : Type 0 where
   pub lent : Lent base t
-  pub ok : Sound (extent t) (view t) (held (extent t) (view t) l)
+  pub ok : Sound (extent t) (view t) l
+  pub tidy : Tidy (extent t) (view t)
 
 -- a rule's answer, taken apart: what it found is Q, and a refusal is mild
 pub data LookupGood (Q : Looked → Type 0) : Lookup → Type 0 where
@@ -89,10 +86,11 @@ pub record IsDomain (t : Tables) (d : ℕ) (x : Looked) : Type 0 where
   pub kind : kind (view t) d ≡ TDR
   pub is : x ≡ looked t d
 
--- .. with its key, which keys configured say
-pub record IsBuilt (t : Tables) (d : ℕ) (x : Looked) : Type 0 where
+-- .. with its key, which keys configured say, and an op state from `least` on
+pub record IsBuilt (t : Tables) (d least : ℕ) (x : Looked) : Type 0 where
   pub domain : IsDomain t d x
   pub keyed : Keyed (view t) d
+  pub op : least ≤ op (view t) (number (view t) d)
 
 -- entry i of block b, on the way of d's tree
 pub record IsSpot (t : Tables) (d b i : ℕ) : Type 0 where
@@ -104,51 +102,20 @@ pub record IsEntry (t : Tables) (d least most b i : ℕ) (e : Entry) : Type 0 wh
   pub entry : e ≡ view t .entry b i
   pub state : (least ≤ e .state) × (e .state ≤ most)
 
-no-kind : (t : Tables) (f : ℕ) → length (t .frames) ≤ f → kind (view t) f ≡ NDA
-no-kind t f h = ap (λ (x : Frame). x .kind) (frame-out (t .frames) (frame f) h)
-
--- a frame that isn't free is one of the window's
-pub in-window : (t : Tables) (f : ℕ) → (kind (view t) f ≡ NDA → ⊥) → f < length (t .frames)
-in-window t f k = go (decLt f (length (t .frames)))
-  where
-    go : Dec (f < length (t .frames)) → f < length (t .frames)
-    go (yes h) = h
-    go (no h) = absurd (k (no-kind t f (omega arith)))
-
-record-limit : (z : Sizes) → frameLimits z TDR .number ≡ z .records
-unfolding frameLimits iff
-record-limit z = refl
-
 module _ (base : Hpa) (t : Tables) (l : Lists) (st : State base t l) where
-  pub sizes : Sized t
-  sizes = sized base t (st .lent .sizes)
-
-  pub tdr-record : (d : ℕ) → kind (view t) d ≡ TDR → number (view t) d < length (t .domains) / recordWords
-  tdr-record d k =
-      let f = st .lent .ranged .frame d (in-window t d (λ q. omega arith)) in
-      let e : ltb (number (view t) d) (frameLimits (sizesIn t) (kind (view t) d) .number) ≡ true = both-left _ _ (both-right _ _ f) in
-      omega (arith, ltb-true (number (view t) d) (frameLimits (sizesIn t) (kind (view t) d) .number) e, ap (λ (x : ℕ). frameLimits (sizesIn t) x .number) k, record-limit (sizesIn t))
-
-  root-is : (r : ℕ) → r < length (t .domains) / recordWords → rootIn t r ≡ tablesOf (length (t .domains)) (length (t .entries)) + r
-  unfolding rootOf tablesOf iff
-  root-is r h = rw (lt-ltb r (length (t .domains) / recordWords) h) refl
-
-  -- a TDR's record is in use, and in its range
-  pub tdr-used : (d : ℕ) → kind (view t) d ≡ TDR → inUse (t .stock) (rootBlock (extent t) (view t) d) ≡ true
+  -- a TDR's record is in use, and its root's block is the record's
+  tdr-used : (d : ℕ) → kind (view t) d ≡ TDR → inUse (t .stock) (rootBlock (extent t) (view t) d) ≡ true
   tdr-used d k = st .ok .used TDR d a-record k
 
-  pub tdr-good : (d : ℕ) → kind (view t) d ≡ TDR → RecordGood (length (t .frames)) (view t .domain (number (view t) d)) (view t .control (number (view t) d))
-  tdr-good d k = st .lent .ranged .record′ (number (view t) d) (tdr-record d k) (tdr-used d k)
-
-  pub dom-good : (d : ℕ) → kind (view t) d ≡ TDR → DomainGood (length (t .frames)) (view t .domain (number (view t) d))
-  dom-good d k = domain-good _ _ (tdr-good d k .scalars)
+  tdr-root : (d : ℕ) → kind (view t) d ≡ TDR → rootIn t (number (view t) d) ≡ rootBlock (extent t) (view t) d
+  tdr-root d k = root-is base t (st .lent) _ (record-low base t (st .lent) d k)
 
   pub domain-for : (n : Pfn) → LookupGood (IsDomain t (n .0)) (domainFor t n)
   unfolding domainFor given
   domain-for n = iff-both (LookupGood (IsDomain t (n .0))) _ _ _
       (λ e.
       let k : kind (view t) (n .0) ≡ TDR = eqb-true _ _ e in
-      let r : rootIn t (number (view t) (n .0)) ≡ rootBlock (extent t) (view t) (n .0) = root-is _ (tdr-record (n .0) k) in
+      let r = tdr-root (n .0) k in
       iff-both (LookupGood (IsDomain t (n .0))) _ _ _
       (λ _. is (record { kind = k; is = rw r refl }))
       (λ u. absurd (true≢false (sym (tdr-used (n .0) k) ∙ rw r at u))))
@@ -156,23 +123,27 @@ module _ (base : Hpa) (t : Tables) (l : Lists) (st : State base t l) where
 
   pub domain-is : (n : Pfn) → kind (view t) (n .0) ≡ TDR → domainFor t n ≡ lookup.Is (looked t (n .0))
   unfolding domainFor given iff
-  domain-is n k = rw (eq-eqb (kind (view t) (n .0)) TDR k, root-is _ (tdr-record (n .0) k), tdr-used (n .0) k) refl
+  domain-is n k = rw (eq-eqb (kind (view t) (n .0)) TDR k, tdr-root (n .0) k, tdr-used (n .0) k) refl
 
-  pub built-for : (n : Pfn) (least most : ℕ) → LookupGood (IsBuilt t (n .0)) (builtFor t n least most)
+  pub built-for : (n : Pfn) (least most : ℕ) → LookupGood (IsBuilt t (n .0) least) (builtFor t n least most)
   unfolding builtFor
   built-for n least most =
-      on-lookup (LookupGood (IsBuilt t (n .0))) (domain-for n) lookup.Not _ (λ a m. not m) (λ x d.
-      iff-both (LookupGood (IsBuilt t (n .0))) _ _ _
-      (λ a. iff-both (LookupGood (IsBuilt t (n .0))) _ _ _
-      (λ _. iff-both (LookupGood (IsBuilt t (n .0))) _ _ _
-      (λ _. is (record { domain = d; keyed = record { tdr = d .kind; held = λ q. omega (arith, sym (ap (λ (y : Looked). y .dom .life) (d .is)) ∙ eqb-true _ _ a) } }))
+      on-lookup (LookupGood (IsBuilt t (n .0) least)) (domain-for n) lookup.Not _ (λ a m. not m) (λ x d.
+      iff-both (LookupGood (IsBuilt t (n .0) least)) _ _ _
+      (λ a. iff-both (LookupGood (IsBuilt t (n .0) least)) _ _ _
+      (λ _. iff-both (LookupGood (IsBuilt t (n .0) least)) _ _ _
+      (λ o. is (record {
+        domain = d;
+        keyed = record { tdr = d .kind; held = λ q. omega (arith, sym (ap (λ (y : Looked). y .dom .life) (d .is)) ∙ eqb-true _ _ a) };
+        op = omega (arith, ap (λ (y : Looked). y .dom .op) (d .is), between-true _ _ _ o);
+      }))
       (λ _. not (mild-no 5 0 (omega arith) (omega arith))))
       (λ _. not (mild-no 4 0 (omega arith) (omega arith))))
       (λ _. not (mild-no 3 0 (omega arith) (omega arith))))
 
   -- an entry that isn't FREE, on the way of d's tree, names a frame of d's with its type
   pub entry-own : (d b i : ℕ) → Keyed (view t) d → IsSpot t d b i → (view t .entry b i .state ≡ FREE → ⊥) → Mine (view t) d (found (points (view t) b i) (entryType (view t .entry b i .state)))
-  entry-own d b i kd sp ne = entry-mine (extent t) (view t) (held (extent t) (view t) l) (st .ok) d kd b i _ (sp .place) (fits-state _ ne) (sp .path)
+  entry-own d b i kd sp ne = entry-mine (extent t) (view t) l (st .ok) d kd b i _ (sp .place) (fits-state _ ne) (sp .path)
 
   pub own-frame : (d b i : ℕ) → Keyed (view t) d → IsSpot t d b i → (view t .entry b i .state ≡ FREE → ⊥) → ownFrame (t .frames) (t .stock) (frame d) (view t .entry b i) ≡ true
   unfolding ownFrame given
@@ -219,4 +190,4 @@ module _ (base : Hpa) (t : Tables) (l : Lists) (st : State base t l) where
       omega (arith, owns-size o, child-room (view t) d (held (extent t) (view t) l d) o (length (t .frames)) F (λ f q. in-window t f (λ e. omega arith)) h free)
 
   pub count-some : (d F : ℕ) → Belongs (view t) d F → kind (view t) d ≡ TDR → 1 ≤ children (view t) (number (view t) d)
-  count-some d F b k = has-child (extent t) (view t) (held (extent t) (view t) l) (st .ok) d F b k
+  count-some d F b k = has-child (extent t) (view t) l (st .ok) d F b k

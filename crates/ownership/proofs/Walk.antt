@@ -48,43 +48,47 @@ place c j b i = go (ℕ-discrete b c) (ℕ-discrete i j)
 
 -- ---- one entry changes
 
--- Tree t′ is t with another entry at (c, j). `old` and `new` are what that entry adds to a weight, on whatever level; the old one leads not back to (c, j).
-pub record Edit (t t′ : Tree) (w c j : ℕ) (q : Found → ℕ) (old new : ℕ) : Type 0 where
-  pub shape : (b i : ℕ) → i < w → ((b ≡ c) × (i ≡ j) → ⊥) → t′ .shape b i ≡ t .shape b i
-  pub points : (b i : ℕ) → i < w → ((b ≡ c) × (i ≡ j) → ⊥) → t′ .points b i ≡ t .points b i
-  pub below : (f : ℕ) → t′ .below f ≡ t .below f
+-- Where P holds, tree t′ is t with another entry at (c, j). `old` and `new` are what that entry adds to a weight, on whatever level; the old one leads
+-- not back to (c, j).
+pub record Edit (t t′ : Tree) (w : ℕ) (P : ℕ → ℕ → Type 0) (c j : ℕ) (q : Found → ℕ) (old new : ℕ) : Type 1 where
+  pub shape : (n b i : ℕ) → P (suc n) b → i < w → ((b ≡ c) × (i ≡ j) → ⊥) → t′ .shape b i ≡ t .shape b i
+  pub points : (n b i : ℕ) → P (suc n) b → i < w → ((b ≡ c) × (i ≡ j) → ⊥) → t′ .points b i ≡ t .points b i
+  pub below : (n b i : ℕ) → P (suc n) b → i < w → t .shape b i ≡ table → t′ .below (t .points b i) ≡ t .below (t .points b i)
+  pub closed : (n b i : ℕ) → P (suc n) b → i < w → t .shape b i ≡ table → P n (t .below (t .points b i))
   pub was : (n : ℕ) → weight q (limb t w n c j) ≡ old
   pub now : (n : ℕ) → weight q (limb t′ w n c j) ≡ new
   pub apart : (n : ℕ) → deeper (t .shape c j) (reads t w c j n (t .below (t .points c j))) ≡ 0
 
-module _ (t t′ : Tree) (w c j : ℕ) (q : Found → ℕ) (old new : ℕ) (e : Edit t t′ w c j q old new) where
+module _ (t t′ : Tree) (w : ℕ) (P : ℕ → ℕ → Type 0) (c j : ℕ) (q : Found → ℕ) (old new : ℕ) (e : Edit t t′ w P c j q old new) where
   -- an entry that did not change
-  kept : (n : ℕ) (sh : Shape) (f : ℕ) (b : ℕ) → weight q (walk t′ w n b) + reads t w c j n b * old ≡ weight q (walk t w n b) + reads t w c j n b * new
-      → weight q (branch sh f (walk t′ w n b)) + deeper sh (reads t w c j n b) * old ≡ weight q (branch sh f (walk t w n b)) + deeper sh (reads t w c j n b) * new
+  kept : (n : ℕ) (sh : Shape) (f : ℕ)
+      → (sh ≡ table → weight q (walk t′ w n (t′ .below f)) + reads t w c j n (t .below f) * old ≡ weight q (walk t w n (t .below f)) + reads t w c j n (t .below f) * new)
+      → weight q (branch sh f (walk t′ w n (t′ .below f))) + deeper sh (reads t w c j n (t .below f)) * old
+      ≡ weight q (branch sh f (walk t w n (t .below f))) + deeper sh (reads t w c j n (t .below f)) * new
   unfolding branch deeper weight
-  kept n nothing f b h = rw (zero-mul old, zero-mul new) refl
-  kept n table f b h = omega (arith, h)
-  kept n page f b h = rw (zero-mul old, zero-mul new) refl
+  kept n nothing f h = rw (zero-mul old, zero-mul new) refl
+  kept n table f h = omega (arith, h refl)
+  kept n page f h = rw (zero-mul old, zero-mul new) refl
 
-  one-place : (n b i : ℕ) → i < w
-      → ((a : ℕ) → weight q (walk t′ w n a) + reads t w c j n a * old ≡ weight q (walk t w n a) + reads t w c j n a * new)
+  one-place : (n b i : ℕ) → P (suc n) b → i < w
+      → ((a : ℕ) → P n a → weight q (walk t′ w n a) + reads t w c j n a * old ≡ weight q (walk t w n a) + reads t w c j n a * new)
       → Place c j b i
       → weight q (limb t′ w n b i) + (one (both (eqb b c) (eqb i j)) + deeper (t .shape b i) (reads t w c j n (t .below (t .points b i)))) * old
       ≡ weight q (limb t w n b i) + (one (both (eqb b c) (eqb i j)) + deeper (t .shape b i) (reads t w c j n (t .below (t .points b i)))) * new
-  one-place n b i k ih (there eb ei h) =
+  one-place n b i p k ih (there eb ei h) =
       rw (h, eb, ei, e .apart n, e .was n, e .now n) (rw (one-mul old, one-mul new) (omega arith))
-  one-place n b i k ih (elsewhere ne h) =
-      rw (h, e .shape b i k ne, e .points b i k ne, e .below (t .points b i), zero-add)
-      (kept n (t .shape b i) (t .points b i) (t .below (t .points b i)) (ih (t .below (t .points b i))))
+  one-place n b i p k ih (elsewhere ne h) =
+      rw (h, e .shape n b i p k ne, e .points n b i p k ne, zero-add)
+      (kept n (t .shape b i) (t .points b i) (λ sh. rw (e .below n b i p k sh) (ih (t .below (t .points b i)) (e .closed n b i p k sh))))
 
-  pub change : (n b : ℕ) → weight q (walk t′ w n b) + reads t w c j n b * old ≡ weight q (walk t w n b) + reads t w c j n b * new
+  pub change : (n b : ℕ) → P n b → weight q (walk t′ w n b) + reads t w c j n b * old ≡ weight q (walk t w n b) + reads t w c j n b * new
   unfolding reads
-  change zero b = unfold walk weight in rw (zero-mul old, zero-mul new) refl
-  change (suc n) b =
+  change zero b p = unfold walk weight in rw (zero-mul old, zero-mul new) refl
+  change (suc n) b p =
       rw (weight-walk q t′ w n b, weight-walk q t w n b)
       (balance (w) (λ i. weight q (limb t′ w n b i)) (λ i. weight q (limb t w n b i))
       (λ i. one (both (eqb b c) (eqb i j)) + deeper (t .shape b i) (reads t w c j n (t .below (t .points b i)))) old new
-      (λ i k. one-place n b i k (change n) (place c j b i)))
+      (λ i k. one-place n b i p k (change n) (place c j b i)))
 
 -- ---- how often an entry is read
 
@@ -190,12 +194,6 @@ branch-cong nothing f l m h = refl
 branch-cong table f l m h = ap (λ (x : List Found). found f EPT ∷ x) (h refl)
 branch-cong page f l m h = refl
 
-deeper-cong : (sh : Shape) (l m : ℕ) → (sh ≡ table → l ≡ m) → deeper sh l ≡ deeper sh m
-unfolding deeper
-deeper-cong nothing l m h = refl
-deeper-cong table l m h = h refl
-deeper-cong page l m h = refl
-
 module _ (t t′ : Tree) (w : ℕ) (P : ℕ → ℕ → Type 0) (a : Alike t t′ w P) where
   pub same-walk : (n b : ℕ) → P n b → walk t′ w n b ≡ walk t w n b
   unfolding walk
@@ -204,17 +202,6 @@ module _ (t t′ : Tree) (w : ℕ) (P : ℕ → ℕ → Type 0) (a : Alike t t�
       rw (a .shape n b i p k, a .points n b i p k)
       (branch-cong (t .shape b i) (t .points b i) (walk t′ w n (t′ .below (t .points b i))) (walk t w n (t .below (t .points b i)))
       (λ e. rw (a .below n b i p k e) (same-walk n (t .below (t .points b i)) (a .closed n b i p k e)))))
-
-  pub same-reads : (c j n b : ℕ) → P n b → reads t′ w c j n b ≡ reads t w c j n b
-  unfolding reads
-  same-reads c j zero b p = refl
-  same-reads c j (suc n) b p = sum-cong w
-      (λ i. one (both (eqb b c) (eqb i j)) + deeper (t′ .shape b i) (reads t′ w c j n (t′ .below (t′ .points b i))))
-      (λ i. one (both (eqb b c) (eqb i j)) + deeper (t .shape b i) (reads t w c j n (t .below (t .points b i)))) (λ i k.
-      ap (λ (x : ℕ). one (both (eqb b c) (eqb i j)) + x)
-      (rw (a .shape n b i p k, a .points n b i p k)
-      (deeper-cong (t .shape b i) (reads t′ w c j n (t′ .below (t .points b i))) (reads t w c j n (t .below (t .points b i)))
-      (λ e. rw (a .below n b i p k e) (same-reads c j n (t .below (t .points b i)) (a .closed n b i p k e))))))
 
 -- ---- an empty table
 

@@ -1,2 +1,3 @@
 pub mod Owned
+pub mod Always
 pub mod Reached

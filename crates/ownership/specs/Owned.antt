@@ -7,9 +7,7 @@ use lib.Dec.{eqb, ltb}
 use lib.ListN.{length}
 use Rattle.rules.specs.Rule.{iff}
 use Rattle.ledger.specs.Codes.{TDR, TDCX, EPT, REG, TEARDOWN, FREE, NL-MAPPED, NL-BLOCKED}
-use Rattle.ledger.specs.declared.words.Frame.{Frame}
-use Rattle.ledger.specs.declared.words.Domain.{Domain}
-use Rattle.ledger.specs.declared.words.Entry.{Entry}
+use Rattle.keeps.specs.Views.{View, kind, owner, number, life, listed, children}
 
 -- ---- the tables, read number by number
 
@@ -18,32 +16,6 @@ pub record Extent : Type 0 where
   pub tables : ℕ
   pub wide : ℕ
   pub deep : ℕ
-
--- a frame, a record, control page i of record r, entry i of block b, and whether block b is in use
-pub record View : Type 0 where
-  pub frame : ℕ → Frame
-  pub domain : ℕ → Domain
-  pub control : ℕ → ℕ → ℕ
-  pub entry : ℕ → ℕ → Entry
-  pub used : ℕ → Bool
-
-abbrev pub kind : View → ℕ → ℕ
-kind s f = s .frame f .kind
-
-abbrev pub owner : View → ℕ → ℕ
-owner s f = s .frame f .owner .0
-
-abbrev pub number : View → ℕ → ℕ
-number s f = s .frame f .number
-
-abbrev pub life : View → ℕ → ℕ
-life s r = s .domain r .life
-
-abbrev pub listed : View → ℕ → ℕ
-listed s r = s .domain r .listed
-
-abbrev pub children : View → ℕ → ℕ
-children s r = s .domain r .children
 
 -- ---- the new walk
 

@@ -1,43 +1,31 @@
 -- The states that calls reach from a fresh start, and document 01's third demand of them.
 use Prim.Native.Nat.{ℕ}
 use mathlib.Core.Path.{_≡_}
+use mathlib.Core.Bool.{true}
 use mathlib.Core.List.{List, []}
 use lib.Dec.{eqb}
 use lib.Ieee.{Float}
 use lib.ListN.{length}
 use Rattle.rules.specs.Rule.{iff}
-use Rattle.units.specs.Address.{frameOf}
 use Rattle.levels.specs.Level.{levels}
 use Rattle.units.specs.Limits.{tableEntries}
 use Rattle.units.specs.declared.address.Hpa.{Hpa}
-use Rattle.units.specs.declared.address.Pfn.{Pfn}
 use Rattle.units.specs.declared.address.Place.{Place}
 use Rattle.units.specs.declared.address.Place.the-variants.{At, Outside}
+use Rattle.gauge.specs.Marks.{marksOk}
 use Rattle.gauge.specs.declared.Gauge.{Gauge}
-use Rattle.stock.specs.Bits.{inUse}
 use Rattle.ledger.specs.Codes.{NDA, TDR, TEARDOWN}
 use Rattle.ledger.specs.Sizes.{tablesOf}
-use Rattle.ledger.specs.Tables.{Tables, frameAt, domainAt, pageAt, entryAt}
+use Rattle.ledger.specs.Tables.{Tables}
 use Rattle.calls.specs.Answers.{numberOf}
 use Rattle.calls.specs.declared.Call.{Call}
 use Rattle.calls.specs.declared.Call.the-variants as call
 use Rattle.plan.specs.Lookup.{onPlace}
 use Rattle.host.specs.Calls.{Outcome, callOf, resetOf, marksOf}
-use Rattle.ownership.specs.Owned.{Extent, View, kind, owner, number, life, Found, found, finds, times, Owns, Keyed, without, Belongs, Untouched}
+use Rattle.ownership.specs.Owned.{Extent, Found, found, finds, times, Owns, Keyed, without, Belongs, Untouched}
+use Rattle.keeps.specs.Views.{kind, owner, number, life, frame, view, placeIn}
 
 -- ---- the lent tables, read number by number
-
-abbrev pub frame : ℕ → Pfn
-frame n = record { 0 = n }
-
-abbrev pub view : Tables → View
-view t = record {
-  frame = λ f. frameAt (t .frames) (frame f);
-  domain = domainAt (t .domains);
-  control = λ r i. pageAt (t .domains) r i .0;
-  entry = entryAt (t .entries);
-  used = inUse (t .stock);
-}
 
 abbrev pub extent : Tables → Extent
 extent t = record { tables = tablesOf (length (t .domains)) (length (t .entries)); wide = tableEntries; deep = length levels }
@@ -73,9 +61,6 @@ roleOf (call.FlushDone d) = on d
 roleOf (call.ReadPage f) = on f
 roleOf (call.ReadEntry d gpa level) = on d
 
-abbrev pub placeIn : Hpa → Tables → Hpa → Place
-placeIn base t hpa = frameOf base (length (t .frames)) hpa
-
 -- "on one domain": its TDR's frame. A reclaim of a TDR is on that domain, and of another frame on its owner
 unfoldable pub subject : Hpa → Tables → Role → Place
 subject base t (on d) = placeIn base t d
@@ -106,26 +91,25 @@ abbrev pub leftBy : Hpa → Tables → Call → Outcome → Lists → Lists
 leftBy base t c o l = iff (eqb (numberOf (o .answer)) 0) (left base t (roleOf c) l) l
 
 -- "A fresh start is what an accepted reset leaves; the calls after it lend the same sizes and base, and the tables as the call before left
--- them": any calls, accepted or refused, and any settings of the marks
-pub data Reached (base : Hpa) : Tables → Gauge → Lists → Type 0 where
-  fresh : (t : Tables) (g : Gauge) → Accepted (resetOf base t g) → Reached base (resetOf base t g .tables) (resetOf base t g .gauge) (λ e. [])
-  called : {t : Tables} {g : Gauge} {l : Lists} → Reached base t g l → (c : Call)
-      → Reached base (callOf base t g c .tables) (callOf base t g c .gauge) (leftBy base t c (callOf base t g c) l)
-  marked : {t : Tables} {g : Gauge} {l : Lists} → Reached base t g l → (raise clear : Float)
-      → Reached base (marksOf base t g raise clear .tables) (marksOf base t g raise clear .gauge) l
+-- them": any calls, accepted or refused, and any settings of the marks, each with any gauge
+pub data Reached (base : Hpa) : Tables → Lists → Type 0 where
+  fresh : (t : Tables) (g : Gauge) → Accepted (resetOf base t g) → Reached base (resetOf base t g .tables) (λ e. [])
+  called : {t : Tables} {l : Lists} → Reached base t l → (g : Gauge) (c : Call) → Reached base (callOf base t g c .tables) (leftBy base t c (callOf base t g c) l)
+  marked : {t : Tables} {l : Lists} → Reached base t l → (g : Gauge) (raise clear : Float) → Reached base (marksOf base t g raise clear .tables) l
 
--- ---- the demand, of tables t, gauge g and the lists l of what domains had when their keys were freed
-pub record Demand3 (base : Hpa) (t : Tables) (g : Gauge) (l : Lists) : Type 0 where
+-- ---- the demand, of tables t and the lists l of what domains had when their keys were freed, with any gauge
+pub record Demand3 (base : Hpa) (t : Tables) (l : Lists) : Type 0 where
   -- the frames recorded as a domain's own that still holds its key are exactly those found, each once, as many as its child count
   pub keyed : (d : ℕ) → Keyed (view t) d → Owns (view t) d (foundIn t d)
   -- once its key is freed, they are those it had at that moment less those reclaimed since
   pub freed : (d : ℕ) → kind (view t) d ≡ TDR → life (view t) (number (view t) d) ≡ TEARDOWN → Owns (view t) d (l d)
   -- an accepted call on one domain leaves every other domain's record, control pages, frames and tree alone. (A call that may touch several
   -- domains' records will be excepted here.)
-  pub alone : (c : Call) → Accepted (callOf base t g c) → (e : ℕ) → kind (view t) e ≡ TDR → (subject base t (roleOf c) ≡ At (frame e) → ⊥)
+  pub alone : (g : Gauge) (c : Call) → Accepted (callOf base t g c) → (e : ℕ) → kind (view t) e ≡ TDR → (subject base t (roleOf c) ≡ At (frame e) → ⊥)
       → Untouched (extent t) (view t) (view (callOf base t g c .tables)) e
-  -- no call is answered 13 or 14, and no setting of the marks 13
-  pub never : (c : Call) → (numberOf (callOf base t g c .answer) ≡ 13 → ⊥) × (numberOf (callOf base t g c .answer) ≡ 14 → ⊥)
-  pub neverMarks : (raise clear : Float) → numberOf (marksOf base t g raise clear .answer) ≡ 13 → ⊥
+  -- no call is answered 14; none is answered 13 whose gauge has its marks in rule; and no setting of the marks is
+  pub never14 : (g : Gauge) (c : Call) → numberOf (callOf base t g c .answer) ≡ 14 → ⊥
+  pub never13 : (g : Gauge) (c : Call) → marksOk (g .raise) (g .clear) (length (t .frames)) ≡ true → numberOf (callOf base t g c .answer) ≡ 13 → ⊥
+  pub neverMarks : (g : Gauge) (raise clear : Float) → numberOf (marksOf base t g raise clear .answer) ≡ 13 → ⊥
   -- a frame recorded NDA is no domain's: not recorded as its own, and not found by its walk
   pub free : (f d : ℕ) → kind (view t) f ≡ NDA → (Belongs (view t) d f → ⊥) × (Keyed (view t) d → (k : ℕ) → times (found f k) (foundIn t d) ≡ 0)

@@ -38,7 +38,7 @@ module _ (p : ℕ → Bool) where
   pub all-done : {n i : ℕ} {t : Bool} → t ≡ allFrom p i (n - i) → n ≤ i → true ≡ t
   all-done {n} {i} {t} e h = rw (e, all-end n i h)
 
-  at-from : (k i j : ℕ) → allFrom p i k ≡ true → i ≤ j → j < i + k → p j ≡ true
+  pub at-from : (k i j : ℕ) → allFrom p i k ≡ true → i ≤ j → j < i + k → p j ≡ true
   unfolding allFrom
   at-from zero i j e h l = let z : _≡_ {A = ℕ} 0 1 = omega arith in cc
   at-from (suc k) i j e h l = ⊎-elim

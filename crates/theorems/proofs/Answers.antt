@@ -95,13 +95,13 @@ pub given-why : (cs : List Check) → Fails (firstNo cs) cs ⊎ Passes cs
 given-why [] = inr none
 given-why (c ∷ cs) = by-why (c .why) (c .well) cs (given-why cs)
 
--- The checks of every row stand in the order of the paper's paragraph "Order", reclaim's own order included.
+-- The checks of every row stand in the order of the paper's paragraph "Order", reclaim's own order included; none is 15's.
 either-order : (p : ℕ) (b : Bool) (cs ds : List Check) → inOrder p cs ≡ true → inOrder p ds ≡ true → inOrder p (iff b cs ds) ≡ true
 unfolding iff
 either-order p true cs ds e f = e
 either-order p false cs ds e f = f
 
-pub ordered : (base : Hpa) (t : Tables) (g : Gauge) (c : Call) → inOrder 0 (allChecks base t g c) ≡ true
+pub ordered : (base : Hpa) (t : Tables) (g : Gauge) (c : Call) → inOrder 1 (allChecks base t g c) ≡ true
 unfolding inOrder iff checksOf
 ordered base t g (call.Create f k) = refl
 ordered base t g (call.KeyConfig d) = refl
@@ -118,7 +118,7 @@ ordered base t g (call.PageRemove d gpa) = refl
 ordered base t g (call.SeptRemove d gpa level) = refl
 ordered base t g (call.FlushDone d) = refl
 ordered base t g (call.KeyFree d) = refl
-ordered base t g (call.Reclaim f) = either-order 2 (kindIs t (window base t f) TDR) (ofTdr base t (window base t f)) (ofChild base t (window base t f)) refl refl
+ordered base t g (call.Reclaim f) = either-order 3 (kindIs t (window base t f) TDR) (ofTdr base t (window base t f)) (ofChild base t (window base t f)) refl refl
 ordered base t g (call.ReadPage f) = refl
 ordered base t g (call.ReadEntry d gpa level) = refl
 

@@ -2,3 +2,4 @@ pub mod Firsts
 pub mod Answers
 pub mod Outcomes
 pub mod Doors
+pub mod Fills

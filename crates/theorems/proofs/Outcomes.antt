@@ -1,5 +1,5 @@
 -- What every outcome has in common: it is the only one, a refusal changes nothing, and zeros are read out but where the paper says otherwise.
-use mathlib.Core.Path.{_≡_, refl, sym, ap, _∙_}
+use mathlib.Core.Path.{_≡_, refl, sym, _∙_}
 use mathlib.Core.Bool.{Bool, true, false, true≢false}
 use mathlib.Core.Logic.{inl, inr}
 use lib.Ieee.{Float}
@@ -19,11 +19,6 @@ use Rattle.host.specs.Calls.{Outcome, outcome, planOf, gaugeAfter, settled, rul
 use Rattle.theorems.specs.Checks.{reads}
 use Rattle.theorems.proofs.Firsts.{Tells, TellsP}
 use Rattle.theorems.proofs.Answers.{plan-first}
-
--- No second outcome fits the contract of a public call: each contract equates the answer, the tables and the gauge at exit with one outcome x
--- (callOf, resetOf or marksOf of what was lent), and two that equal x are equal part by part.
-pub no-second : (x : Outcome) (a b : Answer) (t s : Tables) (g h : Gauge) → outcome a t g ≡ x → outcome b s h ≡ x → (a ≡ b) × (t ≡ s) × (g ≡ h)
-no-second x a b t s g h p q = (ap (λ (o : Outcome). o .answer) (p ∙ sym q), ap (λ (o : Outcome). o .tables) (p ∙ sym q), ap (λ (o : Outcome). o .gauge) (p ∙ sym q))
 
 -- A refusal leaves tables and gauge as they were.
 pub record Kept (t : Tables) (g : Gauge) (o : Outcome) : Type 0 where
@@ -59,7 +54,7 @@ unfolding marksOf given valuesOf
 marks-kept base t g raise clear = kept-iff t g _ _ _ (kept-iff t g _ _ _ (record { kept = λ n. absurd (n refl) }) (same t g _)) (same t g _)
 
 -- "Zeros are read out except at 6, 7 and an accepted read."
-pub Zeros : Answer → Type 0
+unfoldable pub Zeros : Answer → Type 0
 Zeros a = valuesOf a ≡ record { number = numberOf a; kind = 0; owner = record { 0 = 0 }; level = 0; state = 0; hpa = record { 0 = 0 } }
 
 by-tells : (r : Bool) (a : Answer) → Tells r a → (numberOf a ≡ 6 → ⊥) → (numberOf a ≡ 7 → ⊥) → (numberOf a ≡ 0 → r ≡ false) → Zeros a

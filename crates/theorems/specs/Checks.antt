@@ -28,7 +28,7 @@ use Rattle.plan.specs.Lookup.{onPlace, rootIn}
 use Rattle.domains.specs.Domains.{keyUnused}
 use Rattle.plan.specs.Entries.{walkOf, isTracked, tableEmpty}
 use Rattle.plan.specs.declared.lookup.Found.{Found}
-use Rattle.theorems.specs.Order.{tables, marks, operand, domain, record′, lifecycle, pages, opState, offered, key, stopped, foreign, entry, untracked, frame, remain, stock, epoch, count, Check, check}
+use Rattle.theorems.specs.Order.{Reason, tables, marks, operand, domain, record′, lifecycle, pages, opState, offered, key, stopped, foreign, entry, untracked, emptied, remain, stock, epoch, frame, count, Check, check}
 
 -- ---- the words of the table
 -- an hpa is one of the window's, and the frame that it then names
@@ -91,8 +91,9 @@ reached t x gpa level least most rest =
     check entry (between least (arrived t (walkOf t x gpa level) .state) most)
     ∷ rest (arrived t (walkOf t x gpa level)))
 
-abbrev pub own : Tables → Found → Entry → List Check → List Check
-own t x e rest = check frame (ownFrame (t .frames) (t .stock) (x .tdr) e) ∷ rest
+-- a frame blocked, unblocked or removed, for a reason w
+abbrev pub own : Reason → Tables → Found → Entry → List Check → List Check
+own w t x e rest = check w (ownFrame (t .frames) (t .stock) (x .tdr) e) ∷ rest
 
 abbrev pub room : Tables → Found → List Check
 room t x = check count (ltb (x .dom .children) (length (t .frames))) ∷ []
@@ -171,26 +172,26 @@ module _ (base : Hpa) (t : Tables) where
       spot base t d gpa level 0 (
       live t (window d) (
       reached t (domainAtHpa d) gpa level NL-MAPPED PENDING λ e.
-      own t (domainAtHpa d) e []))
+      own frame t (domainAtHpa d) e []))
   checksOf (call.Track d) = inside d (live t (window d) (check epoch (ltb (domainAtHpa d .dom .epoch) epochMost) ∷ []))
   checksOf (call.Unblock d gpa level) =
       spot base t d gpa level 0 (
       live t (window d) (
       reached t (domainAtHpa d) gpa level NL-BLOCKED PENDING-BLOCKED λ e.
       check untracked (isTracked t (e .frame) (domainAtHpa d))
-      ∷ own t (domainAtHpa d) e []))
+      ∷ own frame t (domainAtHpa d) e []))
   checksOf (call.PageRemove d gpa) =
       spot base t d gpa 0 0 (
       live t (window d) (
       reached t (domainAtHpa d) gpa 0 BLOCKED PENDING-BLOCKED λ e.
       check untracked (isTracked t (e .frame) (domainAtHpa d))
-      ∷ own t (domainAtHpa d) e (hasChild (domainAtHpa d))))
+      ∷ own frame t (domainAtHpa d) e (hasChild (domainAtHpa d))))
   checksOf (call.SeptRemove d gpa level) =
       spot base t d gpa level 1 (
       live t (window d) (
       reached t (domainAtHpa d) gpa level NL-BLOCKED NL-BLOCKED λ e.
       check untracked (isTracked t (e .frame) (domainAtHpa d))
-      ∷ own t (domainAtHpa d) e (
+      ∷ own emptied t (domainAtHpa d) e (
       check remain (tableEmpty t (frameAt (t .frames) (e .frame) .number))
       ∷ hasChild (domainAtHpa d))))
   checksOf (call.FlushDone d) = inside d (isDomain t (window d) (check lifecycle (leb (domainAtHpa d .dom .life) CONFIGURED) ∷ []))

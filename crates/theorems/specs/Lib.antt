@@ -1,2 +1,3 @@
 pub mod Order
 pub mod Checks
+pub mod Doors

@@ -29,14 +29,17 @@ pub data Reason : Type 0 where
   -- 7, 8
   entry : Reason
   untracked : Reason
-  -- the 14 of a frame blocked, unblocked or removed
-  frame : Reason
+  -- "septremove's for its frame just before 9"
+  emptied : Reason
   -- 9, 11, 12
   remain : Reason
   stock : Reason
   epoch : Reason
-  -- the 14 of a child count, and of a reclaimed EPT's table
+  -- the 14 of a page removed and of a frame blocked or unblocked; of a child count, and of a reclaimed EPT's table
+  frame : Reason
   count : Reason
+  -- 15: a request's number that names no call
+  unreadable : Reason
 
 abbrev pub number : Reason → ℕ
 number tables = 13
@@ -53,35 +56,42 @@ number stopped = 6
 number foreign = 14
 number entry = 7
 number untracked = 8
-number frame = 14
+number emptied = 14
 number remain = 9
 number stock = 11
 number epoch = 12
+number frame = 14
 number count = 14
+number unreadable = 15
 
 -- "Order: 13, 1, D's 2, 3, 4, 5, F's 2, then 10, 6, 7, 8, 9, 11, 12, 14; a 14 in a walk comes where the walk meets it, one for a TDR's record just
 -- after D's 2, septremove's for its frame just before 9. For reclaim: 13, 1, 2, an owner's or a TDR F's 14, 3, 9, an EPT's table's or the
 -- count's 14."
+--
+-- Reasons that no row has both of share a place, so that no two neighbouring places could be swapped unseen: 10 (create) and 6 (a walk); 9, 11
+-- and 12 (septremove, reclaim; create, septadd; track).
 abbrev pub place : Reason → ℕ
-place tables = 0
-place marks = 0
-place operand = 1
-place domain = 2
-place record′ = 3
-place lifecycle = 4
-place pages = 5
-place opState = 6
-place offered = 7
-place key = 8
+place unreadable = 0
+place tables = 1
+place marks = 1
+place operand = 2
+place domain = 3
+place record′ = 4
+place lifecycle = 5
+place pages = 6
+place opState = 7
+place offered = 8
+place key = 9
 place stopped = 9
 place foreign = 9
 place entry = 10
 place untracked = 11
-place frame = 12
+place emptied = 12
 place remain = 13
-place stock = 14
-place epoch = 15
-place count = 16
+place stock = 13
+place epoch = 13
+place frame = 14
+place count = 14
 
 -- a check: the reason to refuse, and whether all is well
 pub record Check : Type 0 where

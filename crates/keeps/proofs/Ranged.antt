@@ -1,7 +1,7 @@
 -- Answer 13's range check, read number by number: where every number in use is in its range, it passes.
 use mathlib.Core.Path.{_≡_, refl}
 use mathlib.Core.Bool.{Bool, true, false}
-use Prim.Native.Nat.{ℕ, zero, suc, _+_, _-_, _/_, _<_, _≤_}
+use Prim.Native.Nat.{ℕ, zero, suc, _+_, _-_, _/_, _^_, _<_, _≤_}
 use native.Mathlib.Omega.{arith}
 use lib.Dec.{eqb, ltb, leb}
 use lib.ListN.{length}
@@ -9,7 +9,7 @@ use borrow.Author.Tests.{eqb-true, leb-true, ltb-false}
 use Rattle.rules.specs.Rule.{iff, given}
 use Rattle.rules.specs.Upto.{allFrom}
 use Rattle.rules.proofs.Steps.{iff-both, both-left, both-right}
-use Rattle.units.specs.Limits.{between, tableEntries, controlPages, recordWords}
+use Rattle.units.specs.Limits.{between, mostExponent, tableEntries, controlPages, recordWords}
 use Rattle.units.specs.Limits as limits
 use Rattle.units.specs.declared.address.Hpa.{Hpa}
 use Rattle.stock.specs.Bits.{inUse, spareClear}
@@ -21,8 +21,7 @@ use Rattle.ledger.specs.declared.sizes.Sizes.{Sizes}
 use Rattle.ledger.specs.declared.words.Frame.{Frame}
 use Rattle.ledger.specs.declared.words.Domain.{Domain}
 use Rattle.ledger.specs.declared.words.Entry.{Entry}
-use Rattle.ownership.specs.Owned.{View}
-use Rattle.ownership.specs.Reached.{view}
+use Rattle.keeps.specs.Views.{View, view}
 
 -- ---- tests
 
@@ -73,7 +72,7 @@ abbrev pub SizesOk : Hpa → Tables → Type 0
 SizesOk base t = sizesOk base (length (t .frames)) (length (t .domains)) (length (t .stock)) (length (t .entries)) ≡ true
 
 pub record Sized (t : Tables) : Type 0 where
-  pub frames : length (t .frames) ≤ 4096
+  pub frames : length (t .frames) ≤ 2 ^ mostExponent
   pub records : length (t .domains) / recordWords ≤ 16
   pub tables : tablesOf (length (t .domains)) (length (t .entries)) ≤ 64
   pub blocks : length (t .entries) / tableEntries ≡ tablesOf (length (t .domains)) (length (t .entries)) + length (t .domains) / recordWords

@@ -13,7 +13,6 @@ use Rattle.rules.specs.Rule.{iff}
 use Rattle.rules.proofs.Steps.{iff-both}
 use Rattle.units.specs.Limits.{tableEntries}
 use Rattle.units.specs.declared.address.Hpa.{Hpa}
-use Rattle.units.specs.declared.address.Pfn.{Pfn}
 use Rattle.stock.proofs.Bit.{room}
 use Rattle.stock.specs.Bits.{wordOf, bitSet, withBit, setUse, spareClear}
 use Rattle.ledger.specs.Tables.{Tables}
@@ -22,17 +21,15 @@ use Rattle.ledger.specs.declared.sizes.Sizes.{Sizes}
 use Rattle.ledger.specs.declared.words.Frame.{Frame}
 use Rattle.ledger.specs.declared.words.Entry.{Entry}
 use Rattle.plan.specs.declared.edit.FrameEdit.{FrameEdit}
-use Rattle.plan.specs.declared.edit.FrameEdit.the-variants as frame
 use Rattle.plan.specs.declared.edit.StockEdit.{StockEdit}
 use Rattle.plan.specs.declared.edit.StockEdit.the-variants as stock
 use Rattle.plan.specs.declared.edit.EntryEdit.{EntryEdit}
-use Rattle.plan.specs.declared.edit.EntryEdit.the-variants as entry
 use Rattle.plan.specs.declared.edit.Edit.{Edit}
 use Rattle.carry.specs.Carry.{afterUse, applied}
-use Rattle.ownership.specs.Owned.{View}
-use Rattle.ownership.specs.Reached.{view}
-use Rattle.ownership.proofs.Stores.{stored, newFrame, newEntry, newUse, wipedEntry, After, Within, SameLengths, same-lengths, after}
-use Rattle.ownership.proofs.Ranged.{frameGood, entryGood, RecordGood, Ranged, sizesIn, Sized, sized, Lent}
+use Rattle.keeps.specs.Views.{view}
+use Rattle.keeps.proofs.Stores.{FrameIn, frame-kept, frame-set, EntryIn, entry-kept, entry-set, StockIn, stock-kept, stock-table, stock-record, stock-given}
+use Rattle.keeps.proofs.Stores.{stored, newFrame, newEntry, newUse, wipedEntry, After, Within, SameLengths, same-lengths, after}
+use Rattle.keeps.proofs.Ranged.{frameGood, entryGood, RecordGood, sizesIn, Lent}
 
 -- ---- the spare bits
 
@@ -55,45 +52,24 @@ use-spare ws n b on h l e = lt-ltb _ _ (go (ℕ-discrete (n / 64) (b / 64)))
         (with-below (getD ws (b / 64) 0) (b % 64) (n % 64) on (omega arith) (rw q at was))
     go (no q) = rw (getD-set-other ws (b / 64) (n / 64) (withBit (getD ws (b / 64) 0) (b % 64) on) 0 q) was
 
--- every block that an edit takes or gives back is one of n
-pub data Below (n : ℕ) : StockEdit → Type 0 where
-  below-kept : Below n (stock.Keep)
-  below-table : {b : ℕ} → b < n → Below n (stock.Table b)
-  below-record : {b r : ℕ} → b < n → Below n (stock.Record b r)
-  below-given : {b : ℕ} → b < n → Below n (stock.Give b)
-
-spare-after : (st : List ℕ) (n : ℕ) {se : StockEdit} → Below n se → ((b : ℕ) → b < n → b / 64 < length st) → spareClear st n ≡ true → spareClear (afterUse se st) n ≡ true
+spare-after : (n : ℕ) {ds st es : List ℕ} {se : StockEdit} → StockIn ds st es se → n ≡ length es / tableEntries → spareClear st n ≡ true → spareClear (afterUse se st) n ≡ true
 unfolding afterUse
-spare-after st n below-kept k e = e
-spare-after st n (below-table {b} h) k e = use-spare st n b true h (k b h) e
-spare-after st n (below-record {b} h) k e = use-spare st n b true h (k b h) e
-spare-after st n (below-given {b} h) k e = use-spare st n b false h (k b h) e
+spare-after n stock-kept k e = e
+spare-after n {st = st} (stock-table {b} h l) k e = use-spare st n b true (omega arith) h e
+spare-after n {st = st} (stock-record {b} h l m) k e = use-spare st n b true (omega arith) h e
+spare-after n {st = st} (stock-given {b} h l) k e = use-spare st n b false (omega arith) h e
 
 -- ---- the values
 
-pub data FrameRight (z : Sizes) : FrameEdit → Type 0 where
-  frame-kept : FrameRight z (frame.Keep)
-  frame-good : {n : Pfn} {v : Frame} → frameGood z v ≡ true → FrameRight z (frame.Set n v)
-
-pub data EntryRight (frames : ℕ) : EntryEdit → Type 0 where
-  entry-kept : EntryRight frames (entry.Keep)
-  entry-good : {b i : ℕ} {v : Entry} → entryGood frames v ≡ true → EntryRight frames (entry.Set b i v)
-
-pub record Right (z : Sizes) (s s′ : View) (e : Edit) : Type 0 where
-  pub stocks : Below (z .tables + z .records) (e .stock)
-  pub frames : FrameRight z (e .frame)
-  pub entries : EntryRight (z .frames) (e .entry)
-  pub records : (r : ℕ) → r < z .records → s′ .used (z .tables + r) ≡ true → RecordGood (z .frames) (s′ .domain r) (s′ .control r)
-
-frame-right : {z : Sizes} {fe : FrameEdit} → FrameRight z fe → (g : ℕ → Frame) (f : ℕ) → frameGood z (g f) ≡ true → frameGood z (newFrame fe g f) ≡ true
+frame-right : {z : Sizes} {fs : List ℕ} {fe : FrameEdit} → FrameIn z fs fe → (g : ℕ → Frame) (f : ℕ) → frameGood z (g f) ≡ true → frameGood z (newFrame fe g f) ≡ true
 unfolding newFrame
 frame-right frame-kept g f e = e
-frame-right {z} (frame-good {n} {v} h) g f e = iff-both (λ (x : Frame). frameGood z x ≡ true) (eqb f (n .0)) v (g f) (λ _. h) (λ _. e)
+frame-right {z} (frame-set {n} {v} _ _ h) g f e = iff-both (λ (x : Frame). frameGood z x ≡ true) (eqb f (n .0)) v (g f) (λ _. h) (λ _. e)
 
-entry-right : {n : ℕ} {ee : EntryEdit} → EntryRight n ee → (g : ℕ → ℕ → Entry) (b i : ℕ) → entryGood n (g b i) ≡ true → entryGood n (newEntry ee g b i) ≡ true
+entry-right : {n : ℕ} {es : List ℕ} {ee : EntryEdit} → EntryIn n es ee → (g : ℕ → ℕ → Entry) (b i : ℕ) → entryGood n (g b i) ≡ true → entryGood n (newEntry ee g b i) ≡ true
 unfolding newEntry
 entry-right entry-kept g b i e = e
-entry-right {n} (entry-good {b = c} {i = j} {v} h) g b i e =
+entry-right {n} (entry-set {b = c} {i = j} {v} _ _ h) g b i e =
     iff-both (λ (x : Entry). entryGood n x ≡ true) (eqb b c) _ (g b i)
     (λ _. iff-both (λ (x : Entry). entryGood n x ≡ true) (eqb (i % tableEntries) (j % tableEntries)) v (g b i) (λ _. h) (λ _. e)) (λ _. e)
 
@@ -116,28 +92,27 @@ free-good : (n : ℕ) → entryGood n (entryOf 0) ≡ true
 unfolding iff
 free-good n = refl
 
-ranged-after : (z : Sizes) (s s′ : View) (e : Edit) → After s s′ e → Ranged z s → Right z s s′ e → Ranged z s′
-ranged-after z s s′ e a r w = record {
-  frame = λ f h. rw (a .frames f) (frame-right (w .frames) (s .frame) f (r .frame f h));
-  entry = λ b i h u k. rw (a .entries b i)
-      (entry-right (w .entries) (wipedEntry (e .stock) (s .entry)) b i
-      (wiped-right (λ (x : Entry). entryGood (z .frames) x ≡ true) (free-good (z .frames)) (e .stock) (s .used) (s .entry) b i
-      (λ v. r .entry b i h v k) (rw (a .uses b) at u)));
-  record′ = w .records;
-}
-
-same-sizes : {t t′ : Tables} → SameLengths t t′ → sizesIn t′ ≡ sizesIn t
-same-sizes e = rw (e .frames, e .domains, e .entries) refl
-
-pub lent-after : (base : Hpa) (t : Tables) (e : Edit) → Lent base t → Within t e → Right (sizesIn t) (view t) (view (applied e t)) e → Lent base (applied e t)
-lent-after base t e l w r = record {
+pub lent-after : (base : Hpa) (t : Tables) (e : Edit) → Lent base t → Within t e
+    → ((r : ℕ) → r < sizesIn t .records → view (applied e t) .used (sizesIn t .tables + r) ≡ true → RecordGood (length (t .frames)) (view (applied e t) .domain r) (view (applied e t) .control r))
+    → Lent base (applied e t)
+lent-after base t e l w records = record {
   sizes = rw (q .frames, q .domains, q .stocks, q .entries) (l .sizes);
-  spare = rw (q .entries) (unfold applied in spare-after (t .stock) (length (t .entries) / tableEntries) (rw (← (k .blocks)) at (r .stocks)) (λ b h. omega (arith, k .bits)) (l .spare));
-  ranged = rw (same-sizes q) (ranged-after (sizesIn t) (view t) (view (applied e t)) e (after t e w) (l .ranged) r);
+  spare = rw (q .entries) (unfold applied in spare-after (length (t .entries) / tableEntries) (w .stocks) refl (l .spare));
+  ranged = rw same-sizes (record {
+    frame = λ f h. rw (a .frames f) (frame-right (w .frames) (view t .frame) f (l .ranged .frame f h));
+    entry = λ b i h u k. rw (a .entries b i)
+        (entry-right (w .entries) (wipedEntry (e .stock) (view t .entry)) b i
+        (wiped-right (λ (x : Entry). entryGood (length (t .frames)) x ≡ true) (free-good (length (t .frames))) (e .stock) (view t .used) (view t .entry) b i
+        (λ v. l .ranged .entry b i h v k) (rw (a .uses b) at u)));
+    record′ = records;
+  });
 }
   where
+    a : After (view t) (view (applied e t)) e
+    a = after t e w
+
     q : SameLengths t (applied e t)
     q = same-lengths e t
 
-    k : Sized t
-    k = sized base t (l .sizes)
+    same-sizes : sizesIn (applied e t) ≡ sizesIn t
+    same-sizes = rw (q .frames, q .domains, q .entries) refl

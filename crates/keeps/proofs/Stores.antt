@@ -17,6 +17,7 @@ use Rattle.stock.proofs.Uses.{use-length, use-same, use-other}
 use Rattle.stock.proofs.Wipes.{wiped-length, wiped-in, wiped-other}
 use Rattle.ledger.specs.Tables.{Tables, frameAt, recordWord, domainAt, pageAt, entryAt, setDomain, setPage, setEntry}
 use Rattle.ledger.specs.Words.{domainOf, entryOf, FrameFits, DomainFits, EntryFits}
+use Rattle.ledger.specs.declared.sizes.Sizes.{Sizes}
 use Rattle.ledger.specs.declared.words.Frame.{Frame}
 use Rattle.ledger.specs.declared.words.Domain.{Domain}
 use Rattle.ledger.specs.declared.words.Entry.{Entry}
@@ -33,8 +34,8 @@ use Rattle.plan.specs.declared.edit.EntryEdit.{EntryEdit}
 use Rattle.plan.specs.declared.edit.EntryEdit.the-variants as entry
 use Rattle.plan.specs.declared.edit.Edit.{Edit}
 use Rattle.carry.specs.Carry.{afterFrame, afterPage, afterDomain, afterEntry, afterUse, afterRecord, afterBlock, applied}
-use Rattle.ownership.specs.Owned.{View}
-use Rattle.ownership.specs.Reached.{view}
+use Rattle.keeps.specs.Views.{View, view}
+use Rattle.keeps.proofs.Ranged.{frameGood, entryGood, sizesIn}
 
 -- ---- what each part leaves of a view
 
@@ -135,11 +136,11 @@ pub record After (s s′ : View) (e : Edit) : Type 0 where
   pub entries : (b i : ℕ) → s′ .entry b i ≡ newEntry (e .entry) (wipedEntry (e .stock) (s .entry)) b i
   pub uses : (b : ℕ) → s′ .used b ≡ newUse (e .stock) (s .used) b
 
--- ---- an edit inside the tables
+-- ---- an edit inside the tables, of numbers in range
 
-pub data FrameIn (fs : List ℕ) : FrameEdit → Type 0 where
-  frame-kept : FrameIn fs (frame.Keep)
-  frame-set : {n : Pfn} {v : Frame} → n .0 < length fs → FrameFits v → FrameIn fs (frame.Set n v)
+pub data FrameIn (z : Sizes) (fs : List ℕ) : FrameEdit → Type 0 where
+  frame-kept : FrameIn z fs (frame.Keep)
+  frame-set : {n : Pfn} {v : Frame} → n .0 < length fs → FrameFits v → frameGood z v ≡ true → FrameIn z fs (frame.Set n v)
 
 pub data DomainIn (ds : List ℕ) : DomainEdit → Type 0 where
   domain-kept : DomainIn ds (domain.Keep)
@@ -149,23 +150,23 @@ pub data PageIn (ds : List ℕ) : PageEdit → Type 0 where
   page-kept : PageIn ds (page.Keep)
   page-set : {r i : ℕ} {n : Pfn} → r < length ds / recordWords → PageIn ds (page.Set r i n)
 
-pub data EntryIn (es : List ℕ) : EntryEdit → Type 0 where
-  entry-kept : EntryIn es (entry.Keep)
-  entry-set : {b i : ℕ} {v : Entry} → b < length es / tableEntries → EntryFits v → EntryIn es (entry.Set b i v)
+pub data EntryIn (frames : ℕ) (es : List ℕ) : EntryEdit → Type 0 where
+  entry-kept : EntryIn frames es (entry.Keep)
+  entry-set : {b i : ℕ} {v : Entry} → b < length es / tableEntries → EntryFits v → entryGood frames v ≡ true → EntryIn frames es (entry.Set b i v)
 
 -- a block below those that the stock has bits for
 pub data StockIn (ds st es : List ℕ) : StockEdit → Type 0 where
   stock-kept : StockIn ds st es (stock.Keep)
   stock-table : {b : ℕ} → b / 64 < length st → b < length es / tableEntries → StockIn ds st es (stock.Table b)
   stock-record : {b r : ℕ} → b / 64 < length st → b < length es / tableEntries → r < length ds / recordWords → StockIn ds st es (stock.Record b r)
-  stock-given : {b : ℕ} → b / 64 < length st → StockIn ds st es (stock.Give b)
+  stock-given : {b : ℕ} → b / 64 < length st → b < length es / tableEntries → StockIn ds st es (stock.Give b)
 
 pub record Within (t : Tables) (e : Edit) : Type 0 where
-  pub frames : FrameIn (t .frames) (e .frame)
+  pub frames : FrameIn (sizesIn t) (t .frames) (e .frame)
   pub domains : DomainIn (t .domains) (e .domain)
   pub pages : PageIn (t .domains) (e .page)
   pub stocks : StockIn (t .domains) (t .stock) (t .entries) (e .stock)
-  pub entries : EntryIn (t .entries) (e .entry)
+  pub entries : EntryIn (length (t .frames)) (t .entries) (e .entry)
 
 -- ---- lengths stay
 
@@ -259,10 +260,10 @@ module _ (es : List ℕ) (b c : ℕ) where
 
 -- ---- the laws
 
-frames-after : {fs : List ℕ} {fe : FrameEdit} → FrameIn fs fe → (f : ℕ) → frameAt (afterFrame fe fs) (record { 0 = f }) ≡ newFrame fe (λ n. frameAt fs (record { 0 = n })) f
+frames-after : {z : Sizes} {fs : List ℕ} {fe : FrameEdit} → FrameIn z fs fe → (f : ℕ) → frameAt (afterFrame fe fs) (record { 0 = f }) ≡ newFrame fe (λ n. frameAt fs (record { 0 = n })) f
 unfolding afterFrame newFrame
 frames-after frame-kept f = refl
-frames-after {fs} (frame-set {n} {v} h w) f =
+frames-after {fs = fs} (frame-set {n} {v} h w _) f =
     stored-by (λ k. frameAt fs (record { 0 = k })) (n .0) v f _ (λ e. rw e (frame-same fs n v h w)) (λ e. frame-other fs n v (record { 0 = f }) e)
 
 domains-after : {ds : List ℕ} {de : DomainEdit} → DomainIn ds de → (r : ℕ) → domainAt (afterDomain de ds) r ≡ newDomain de (domainAt ds) r
@@ -297,10 +298,10 @@ same-entry : (es : List ℕ) (b i j : ℕ) → i % tableEntries ≡ j % tableEnt
 unfolding entryAt
 same-entry es b i j q = rw q refl
 
-entries-after : {es : List ℕ} {ee : EntryEdit} → EntryIn es ee → (b i : ℕ) → entryAt (afterEntry ee es) b i ≡ newEntry ee (entryAt es) b i
+entries-after : {n : ℕ} {es : List ℕ} {ee : EntryEdit} → EntryIn n es ee → (b i : ℕ) → entryAt (afterEntry ee es) b i ≡ newEntry ee (entryAt es) b i
 unfolding afterEntry newEntry
 entries-after entry-kept b i = refl
-entries-after {es} (entry-set {b = c} {i = j} {v} h w) b i =
+entries-after {es = es} (entry-set {b = c} {i = j} {v} h w _) b i =
     cell-by tableEntries (entryAt es) c j v b i _
     (λ p q. rw p (same-entry (setEntry es c j v) c i j q ∙ entry-same es c j v (omega arith) w))
     (λ d. entry-other es c j v b i d)
@@ -310,28 +311,28 @@ unfolding afterUse newUse
 uses-after stock-kept b = refl
 uses-after {st = st} (stock-table {b = n} h k) b = stored-by (inUse st) n true b _ (λ e. rw e (use-same st n true h)) (λ e. use-other st n true b e)
 uses-after {st = st} (stock-record {b = n} h k l) b = stored-by (inUse st) n true b _ (λ e. rw e (use-same st n true h)) (λ e. use-other st n true b e)
-uses-after {st = st} (stock-given {b = n} h) b = stored-by (inUse st) n false b _ (λ e. rw e (use-same st n false h)) (λ e. use-other st n false b e)
+uses-after {st = st} (stock-given {b = n} h _) b = stored-by (inUse st) n false b _ (λ e. rw e (use-same st n false h)) (λ e. use-other st n false b e)
 
 record-after : {ds st es : List ℕ} {se : StockEdit} → StockIn ds st es se → (r : ℕ) → domainAt (afterRecord se ds) r ≡ wipedDomain se (domainAt ds) r
 unfolding afterRecord wipedDomain
 record-after stock-kept r = refl
 record-after (stock-table h k) r = refl
 record-after {ds} (stock-record {r = q} h k l) r = wiped-domain ds q r l
-record-after (stock-given h) r = refl
+record-after (stock-given h _) r = refl
 
 page-after : {ds st es : List ℕ} {se : StockEdit} → StockIn ds st es se → (r i : ℕ) → pageAt (afterRecord se ds) r i .0 ≡ wipedPage se (λ k j. pageAt ds k j .0) r i
 unfolding afterRecord wipedPage
 page-after stock-kept r i = refl
 page-after (stock-table h k) r i = refl
 page-after {ds} (stock-record {r = q} h k l) r i = wiped-page ds q r l i
-page-after (stock-given h) r i = refl
+page-after (stock-given h _) r i = refl
 
 block-after : {ds st es : List ℕ} {se : StockEdit} → StockIn ds st es se → (b i : ℕ) → entryAt (afterBlock se es) b i ≡ wipedEntry se (entryAt es) b i
 unfolding afterBlock wipedEntry
 block-after stock-kept b i = refl
 block-after {es = es} (stock-table {b = n} h k) b i = wiped-entry es n b k i
 block-after {es = es} (stock-record {b = n} h k l) b i = wiped-entry es n b k i
-block-after (stock-given h) b i = refl
+block-after (stock-given h _) b i = refl
 
 -- ---- one after the other
 
@@ -343,9 +344,9 @@ page-in : {ds : List ℕ} {pe : PageEdit} (ds′ : List ℕ) → length ds′ �
 page-in ds′ e page-kept = page-kept
 page-in ds′ e (page-set h) = page-set (rw (← e) at h)
 
-entry-in : {es : List ℕ} {ee : EntryEdit} (es′ : List ℕ) → length es′ ≡ length es → EntryIn es ee → EntryIn es′ ee
+entry-in : {n : ℕ} {es : List ℕ} {ee : EntryEdit} (es′ : List ℕ) → length es′ ≡ length es → EntryIn n es ee → EntryIn n es′ ee
 entry-in es′ e entry-kept = entry-kept
-entry-in es′ e (entry-set h w) = entry-set (rw (← e) at h) w
+entry-in es′ e (entry-set h w g) = entry-set (rw (← e) at h) w g
 
 domain-cong : (de : DomainEdit) (g g′ : ℕ → Domain) (r : ℕ) → g r ≡ g′ r → newDomain de g r ≡ newDomain de g′ r
 unfolding newDomain

@@ -14,9 +14,8 @@ use Rattle.ledger.specs.Words.{FrameFits}
 use Rattle.ledger.specs.declared.sizes.Sizes.{Sizes}
 use Rattle.ledger.specs.declared.words.Frame.{Frame}
 use Rattle.plan.specs.Edits.{freed, newTdr, newTdcx, newEpt, newReg, withFrameEpoch}
-use Rattle.ownership.specs.Owned.{kind}
-use Rattle.ownership.specs.Reached.{frame, view}
-use Rattle.ownership.proofs.Ranged.{both-of, frameGood}
+use Rattle.keeps.specs.Views.{kind, frame, view}
+use Rattle.keeps.proofs.Ranged.{both-of, frameGood}
 
 module _ (z : Sizes) where
   pub freed-good : frameGood z freed ≡ true

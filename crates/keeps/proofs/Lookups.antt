@@ -1,0 +1,198 @@
+-- What the domain, the walk and the entry of a call are on any tables that pass the range check: plan/specs' own lookups, once for all calls.
+use mathlib.Core.Path.{_≡_, refl, sym, ap, _∙_}
+use mathlib.Core.Bool.{true}
+use mathlib.Core.Logic.{_⊎_, inl, inr}
+use Prim.Native.Nat.{ℕ, zero, suc, _+_, _-_, _/_, _<_, _≤_}
+use native.Mathlib.Omega.{arith}
+use lib.ListN.{length}
+use borrow.Author.Tests.{eqb-true, ltb-true, eq-eqb, lt-ltb}
+use Rattle.rules.specs.Rule.{iff, given}
+use Rattle.rules.proofs.Steps.{iff-both, both-left, both-right}
+use Rattle.levels.specs.Level.{topLevel, indexAt}
+use Rattle.units.specs.Limits.{tableEntries, recordWords}
+use Rattle.units.specs.declared.address.Hpa.{Hpa}
+use Rattle.units.specs.declared.address.Gpa.{Gpa}
+use Rattle.units.specs.declared.address.Pfn.{Pfn}
+use Rattle.ledger.specs.Codes.{NDA, TDR, EPT, NL-MAPPED, NL-BLOCKED}
+use Rattle.range.specs.Range.{frameLimits}
+use Rattle.ledger.specs.Sizes.{tablesOf, rootOf}
+use Rattle.ledger.specs.Tables.{Tables}
+use Rattle.ledger.specs.declared.sizes.Sizes.{Sizes}
+use Rattle.ledger.specs.declared.words.Entry.{Entry}
+use Rattle.walk.specs.Walk.{entryType, ownFrame, walkFrom, onWalk}
+use Rattle.walk.specs.declared.Walk.{Walk}
+use Rattle.walk.specs.declared.Walk.the-variants as walked
+use Rattle.calls.specs.declared.Answer.{Answer}
+use Rattle.plan.specs.Lookup.{onLookup, domainFor, builtFor, rootIn}
+use Rattle.plan.specs.Entries.{entryFor, onReach}
+use Rattle.plan.specs.declared.lookup.Found.{Found as Looked}
+use Rattle.plan.specs.declared.lookup.Lookup.{Lookup}
+use Rattle.plan.specs.declared.lookup.Lookup.the-variants as lookup
+use Rattle.plan.specs.declared.entry.Reach.{Reach}
+use Rattle.plan.specs.declared.entry.Reach.the-variants as reach
+use Rattle.keeps.specs.Views.{kind, number, frame, view}
+use Rattle.keeps.proofs.Ranged.{between-true, sizesIn, Lent}
+use Rattle.keeps.proofs.Facts.{DomainGood, domain-good, in-window}
+use Rattle.keeps.proofs.Ranges.{if-so}
+
+-- ---- a rule's answer, taken apart: what it found is Q
+
+pub data LookupSays (Q : Looked → Type 0) : Lookup → Type 0 where
+  is : {x : Looked} → Q x → LookupSays Q (lookup.Is x)
+  not : {a : Answer} → LookupSays Q (lookup.Not a)
+
+pub data ReachSays (Q : ℕ → ℕ → Entry → Type 0) : Reach → Type 0 where
+  reached : {b i : ℕ} {e : Entry} → Q b i e → ReachSays Q (reach.At b i e)
+  not-reached : {a : Answer} → ReachSays Q (reach.Not a)
+
+pub data WalkSays (Q : ℕ → ℕ → Type 0) : Walk → Type 0 where
+  at : {b i : ℕ} → Q b i → WalkSays Q (walked.At b i)
+  stopped : {l j : ℕ} → WalkSays Q (walked.Stopped l j)
+  foreign : WalkSays Q (walked.Foreign)
+
+module _ {A : Type 0} (P : A → Type 0) where
+  pub on-lookup : {Q : Looked → Type 0} {q : Lookup} → LookupSays Q q → (z : Answer → A) (k : Looked → A)
+      → ((a : Answer) → P (z a)) → ((x : Looked) → Q x → P (k x)) → P (onLookup q z k)
+  unfolding onLookup
+  on-lookup (is {x} h) z k f g = g x h
+  on-lookup (not {a}) z k f g = f a
+
+  pub on-reach : {Q : ℕ → ℕ → Entry → Type 0} {q : Reach} → ReachSays Q q → (z : Answer → A) (k : ℕ → ℕ → Entry → A)
+      → ((a : Answer) → P (z a)) → ((b i : ℕ) (e : Entry) → Q b i e → P (k b i e)) → P (onReach q z k)
+  unfolding onReach
+  on-reach (reached {b} {i} {e} h) z k f g = g b i e h
+  on-reach (not-reached {a}) z k f g = f a
+
+  pub on-walk : {Q : ℕ → ℕ → Type 0} {q : Walk} → WalkSays Q q → (s : ℕ → ℕ → A) (z : A) (k : ℕ → ℕ → A)
+      → ((l j : ℕ) → P (s l j)) → P z → ((b i : ℕ) → Q b i → P (k b i)) → P (onWalk q s z k)
+  unfolding onWalk
+  on-walk (at {b} {i} h) s z k f y g = g b i h
+  on-walk (stopped {l} {j}) s z k f y g = f l j
+  on-walk foreign s z k f y g = y
+
+-- ---- what a lookup finds
+
+pub record IsDomain (t : Tables) (x : Looked) : Type 0 where
+  pub tdr : x .tdr .0 < length (t .frames)
+  pub rec : x .rec < sizesIn t .records
+  pub root : x .root ≡ sizesIn t .tables + x .rec
+  pub used : view t .used (x .root) ≡ true
+  pub dom : x .dom ≡ view t .domain (x .rec)
+  pub good : DomainGood (length (t .frames)) (x .dom)
+
+pub record IsSpot (t : Tables) (b i : ℕ) : Type 0 where
+  pub block : b < sizesIn t .tables + sizesIn t .records
+  pub used : view t .used b ≡ true
+  pub place : i < tableEntries
+
+pub record IsEntry (t : Tables) (least most b i : ℕ) (e : Entry) : Type 0 where
+  pub spot : IsSpot t b i
+  pub state : (least ≤ e .state) × (e .state ≤ most)
+
+-- the frame of an entry that is the domain's and of the entry's type
+pub record IsOwn (t : Tables) (e : Entry) : Type 0 where
+  pub inside : e .frame .0 < length (t .frames)
+  pub type : kind (view t) (e .frame .0) ≡ entryType (e .state)
+
+record-limit : (z : Sizes) → frameLimits z TDR .number ≡ z .records
+unfolding frameLimits iff
+record-limit z = refl
+
+table-limit : (z : Sizes) → frameLimits z EPT .number ≡ z .tables
+unfolding frameLimits iff
+table-limit z = refl
+
+some-type : (n : ℕ) → entryType n ≡ NDA → ⊥
+unfolding entryType
+some-type n = iff-both (λ (x : ℕ). x ≡ NDA → ⊥) _ _ _ (λ _ q. omega arith) (λ _. iff-both (λ (x : ℕ). x ≡ NDA → ⊥) _ _ _ (λ _ q. omega arith) (λ _ q. omega arith))
+
+pub table-type : (n : ℕ) → (n ≡ NL-MAPPED) ⊎ (n ≡ NL-BLOCKED) → entryType n ≡ EPT
+unfolding entryType iff
+table-type n (inl q) = rw q refl
+table-type n (inr q) = rw q refl
+
+module _ (base : Hpa) (t : Tables) (ok : Lent base t) where
+  number-low : (f : ℕ) → f < length (t .frames) → number (view t) f < frameLimits (sizesIn t) (kind (view t) f) .number
+  number-low f h = ltb-true _ _ (both-left _ _ (both-right _ _ (ok .ranged .frame f h)))
+
+  pub table-low : (f : ℕ) → kind (view t) f ≡ EPT → number (view t) f < sizesIn t .tables
+  table-low f k = omega (arith, number-low f (in-window t f (λ q. omega arith)), ap (λ (x : ℕ). frameLimits (sizesIn t) x .number) k, table-limit (sizesIn t))
+
+  pub record-low : (f : ℕ) → kind (view t) f ≡ TDR → number (view t) f < sizesIn t .records
+  record-low f k = omega (arith, number-low f (in-window t f (λ q. omega arith)), ap (λ (x : ℕ). frameLimits (sizesIn t) x .number) k, record-limit (sizesIn t))
+
+  pub root-is : (r : ℕ) → r < length (t .domains) / recordWords → rootIn t r ≡ tablesOf (length (t .domains)) (length (t .entries)) + r
+  unfolding rootOf tablesOf iff
+  root-is r h = rw (lt-ltb r (length (t .domains) / recordWords) h) refl
+
+  pub domain-for : (n : Pfn) → LookupSays (IsDomain t) (domainFor t n)
+  unfolding domainFor given
+  domain-for n = iff-both (LookupSays (IsDomain t)) _ _ _
+      (λ e.
+      let k : kind (view t) (n .0) ≡ TDR = eqb-true _ _ e in
+      let r : rootIn t (number (view t) (n .0)) ≡ sizesIn t .tables + number (view t) (n .0) = root-is _ (record-low (n .0) k) in
+      iff-both (LookupSays (IsDomain t)) _ _ _
+      (λ u. is (record {
+        tdr = in-window t (n .0) (λ q. omega arith);
+        rec = record-low (n .0) k;
+        root = r;
+        used = u;
+        dom = refl;
+        good = domain-good _ _ (ok .ranged .record′ (number (view t) (n .0)) (record-low (n .0) k) (rw r at u) .scalars);
+      }))
+      (λ _. not))
+      (λ _. not)
+
+  pub built-for : (n : Pfn) (least most : ℕ) → LookupSays (IsDomain t) (builtFor t n least most)
+  unfolding builtFor
+  built-for n least most =
+      on-lookup (LookupSays (IsDomain t)) (domain-for n) lookup.Not _ (λ a. not) (λ x d.
+      iff-both (LookupSays (IsDomain t)) _ _ _
+      (λ _. iff-both (LookupSays (IsDomain t)) _ _ _
+      (λ _. iff-both (LookupSays (IsDomain t)) _ _ _ (λ _. is d) (λ _. not))
+      (λ _. not))
+      (λ _. not))
+
+  pub own-frame : (tdr : Pfn) (e : Entry) → ownFrame (t .frames) (t .stock) tdr e ≡ true → IsOwn t e
+  unfolding ownFrame given
+  own-frame tdr e q =
+      let k : kind (view t) (e .frame .0) ≡ entryType (e .state) = eqb-true _ _ (both-left _ _ q) in
+      record { inside = in-window t (e .frame .0) (λ z. some-type (e .state) (sym k ∙ z)); type = k }
+
+  -- its table is in use
+  own-table : (tdr : Pfn) (e : Entry) → ownFrame (t .frames) (t .stock) tdr e ≡ true → kind (view t) (e .frame .0) ≡ EPT → view t .used (number (view t) (e .frame .0)) ≡ true
+  unfolding ownFrame given
+  own-table tdr e q k = if-so _ _ (both-right _ _ (both-right _ _ q)) (eq-eqb (kind (view t) (e .frame .0)) EPT k)
+
+  -- a walk from a block in use ends at a block in use
+  module _ (tdr : Pfn) (gpa : Gpa) (want : ℕ) where
+    pub walk-says : (level block : ℕ) → block < sizesIn t .tables + sizesIn t .records → view t .used block ≡ true
+        → WalkSays (IsSpot t) (walkFrom (t .frames) (t .stock) (t .entries) tdr gpa want level block)
+    unfolding walkFrom given indexAt
+    walk-says zero block h u = at {i = indexAt gpa zero} (record { block = h; used = u; place = omega arith })
+    walk-says (suc level) block h u =
+        let i = indexAt gpa (suc level) in
+        let w : i < tableEntries = omega arith in
+        iff-both (WalkSays (IsSpot t)) _ _ _
+        (λ _. at (record { block = h; used = u; place = w }))
+        (λ _. iff-both (WalkSays (IsSpot t)) _ _ _
+        (λ e.
+        let q : view t .entry block i .state ≡ NL-MAPPED = eqb-true _ _ e in
+        iff-both (WalkSays (IsSpot t)) _ _ _
+        (λ o.
+        let k : kind (view t) (view t .entry block i .frame .0) ≡ EPT = own-frame tdr (view t .entry block i) o .type ∙ table-type _ (inl q) in
+        walk-says level (number (view t) (view t .entry block i .frame .0)) (omega (arith, table-low _ k)) (own-table tdr (view t .entry block i) o k))
+        (λ _. foreign))
+        (λ _. stopped))
+
+  pub walk-for : (x : Looked) → IsDomain t x → (gpa : Gpa) (level : ℕ) → WalkSays (IsSpot t) (walkFrom (t .frames) (t .stock) (t .entries) (x .tdr) gpa level topLevel (x .root))
+  walk-for x d gpa level = walk-says (x .tdr) gpa level topLevel (x .root) (omega (arith, d .root, d .rec)) (d .used)
+
+  pub entry-for : (x : Looked) → IsDomain t x → (gpa : Gpa) (level least most : ℕ) → ReachSays (IsEntry t least most) (entryFor t x gpa level least most)
+  unfolding entryFor given
+  entry-for x d gpa level least most =
+      on-walk (ReachSays (IsEntry t least most)) (walk-for x d gpa level) _ _ _
+      (λ j k. not-reached) not-reached
+      (λ b i sp. iff-both (ReachSays (IsEntry t least most)) _ _ _
+      (λ e. reached (record { spot = sp; state = between-true _ _ _ e }))
+      (λ _. not-reached))
