@@ -11,6 +11,8 @@ const STDIN: i32 = 0;
 
 const STDOUT: i32 = 1;
 
+const STDERR: i32 = 2;
+
 const BASE_BYTES: u64 = 1073741824;
 
 const FRAMES: u64 = 1024;
@@ -18,13 +20,14 @@ const FRAMES: u64 = 1024;
 // Room for an answer: its line takes at most bytes 118, the line's number having 5 digits at most and any other 20.
 const ANSWER_BYTES: usize = 128;
 
-// Where the replay stands: the gauge, the script so far, the bytes of output not yet written, and whether the reading is over: at the
-// input's end, or at line 10001.
+// Where the replay stands: the gauge, the script so far, the bytes of output not yet written, whether the reading is over (at the
+// input's end, at line 10001, or given up), and whether it was given up: then no line more is run and nothing more is written.
 pub struct State {
     pub gauge: Gauge,
     pub feed: Feed,
     pub pending: usize,
     pub stopped: bool,
+    pub given_up: bool,
 }
 
 fn main() {
@@ -92,29 +95,52 @@ fn begin(out: &mut [u8], gauge: Gauge) -> State {
         feed: Feed { lines: 0, held: 0 },
         pending: feed::within(n, out),
         stopped: false,
+        given_up: false,
     }
 }
 
+// The last line says that the whole script was read and answered. A run that was given up has none.
 fn finish(frames: &[u64], out: &mut [u8], s: State) {
     let done = flush(out, s);
+    if done.given_up {
+        return;
+    }
     let g = done.gauge;
     let last = answers::write_last(out, count::used_frames(frames), g.lamp);
     let n = feed::within(last, out);
-    io::write_all(STDOUT, &out[..n]);
+    let closed = with_pending(done, n);
+    flush(out, closed);
 }
 
-// The pending output is written.
+// The pending output is written, or the run is given up.
 fn flush(out: &[u8], s: State) -> State {
-    let n = feed::within(s.pending, out);
-    io::write_all(STDOUT, &out[..n]);
-    let gauge = s.gauge;
-    let feed = s.feed;
-    State {
-        gauge,
-        feed,
-        pending: 0,
-        stopped: s.stopped,
+    if s.given_up {
+        return s;
     }
+    let n = feed::within(s.pending, out);
+    if io::write_all(STDOUT, &out[..n]) {
+        return with_pending(s, 0);
+    }
+    io::write_all(STDERR, b"replay: the answers can't be written\n");
+    give_up(s)
+}
+
+fn with_pending(old: State, pending: usize) -> State {
+    let mut s = old;
+    s.pending = pending;
+    s
+}
+
+fn stop(old: State) -> State {
+    let mut s = old;
+    s.stopped = true;
+    s
+}
+
+fn give_up(old: State) -> State {
+    let mut s = stop(old);
+    s.given_up = true;
+    s
 }
 
 // Room for one answer more.
@@ -160,33 +186,24 @@ fn run_line(
         feed,
         pending: feed::advanced(at, r.wrote, most),
         stopped: s.stopped,
+        given_up: s.given_up,
     }
 }
 
 // Line 10001 answers 15 and ends the reading.
 fn stop_at(out: &mut [u8], old: State) -> State {
     let s = with_room(out, old);
-    let gauge = s.gauge;
-    let feed = s.feed;
     let at = feed::within(s.pending, out);
     let most = out.len();
     let n = answers::write_unreadable(&mut out[at..], feed::LINES_MOST + 1);
-    State {
-        gauge,
-        feed,
-        pending: feed::advanced(at, n, most),
-        stopped: true,
-    }
+    let pending = feed::advanced(at, n, most);
+    stop(with_pending(s, pending))
 }
 
-fn with_feed(s: State, feed: Feed) -> State {
-    let gauge = s.gauge;
-    State {
-        gauge,
-        feed,
-        pending: s.pending,
-        stopped: s.stopped,
-    }
+fn with_feed(old: State, feed: Feed) -> State {
+    let mut s = old;
+    s.feed = feed;
+    s
 }
 
 fn take_byte(
@@ -235,7 +252,7 @@ fn take_part(
     s
 }
 
-// One part of the input, or its end.
+// One part of the input, or its end. If it can't be read, what was answered is still written.
 fn read_part(
     frames: &mut [u64],
     domains: &mut [u64],
@@ -247,15 +264,13 @@ fn read_part(
     s: State,
 ) -> State {
     let got = libc::read(STDIN, input);
-    if got <= 0 {
-        let gauge = s.gauge;
-        let feed = s.feed;
-        return State {
-            gauge,
-            feed,
-            pending: s.pending,
-            stopped: true,
-        };
+    if got < 0 {
+        let told = flush(out, s);
+        io::write_all(STDERR, b"replay: standard input can't be read\n");
+        return give_up(told);
+    }
+    if got == 0 {
+        return stop(s);
     }
     let n = io::count(got, input);
     take_part(frames, domains, stock, entries, line, out, &input[..n], s)
@@ -284,7 +299,7 @@ fn read_all(
     s
 }
 
-// A last line may lack its LF.
+// A last line may lack its LF. Where the run was given up, nobody knows how the line goes on: it isn't run.
 fn end_line(
     frames: &mut [u64],
     domains: &mut [u64],
@@ -294,6 +309,9 @@ fn end_line(
     out: &mut [u8],
     s: State,
 ) -> State {
+    if s.given_up {
+        return s;
+    }
     let feed = s.feed;
     if feed.held == 0 {
         return s;
