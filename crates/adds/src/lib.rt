@@ -1,17 +1,15 @@
 // The calls that give a tree a frame: septadd, pageadd, pageaug.
 ghost use mathlib.Core.Path.{_≡_};
 ghost use Rattle.ledger.specs.Tables.{lent};
-ghost use Rattle.adds.specs.Adds.{septAt, pageAt, septaddPlan, pagePlan};
+ghost use Rattle.adds.specs.Adds.{freeFor, hang, septAt, pageAt, septaddPlan, pagePlan};
 use calls::Answer;
 use ledger::codes::EPT;
 use ledger::codes::FREE;
 use ledger::codes::INITIALIZED;
-use ledger::codes::NDA;
 use ledger::codes::NL_MAPPED;
 use ledger::codes::REG;
 use ledger::codes::RUNNABLE;
 use ledger::sizes;
-use ledger::tables;
 use ledger::words::Entry;
 use ledger::words::Frame;
 use plan::change;
@@ -23,13 +21,50 @@ use plan::entry;
 use plan::entry::Reach;
 use plan::lookup;
 use plan::lookup::Found;
-use plan::lookup::Lookup;
-use plan::lookup::Operand;
+use plan::lookup::Parties;
 use stock::bits;
 use stock::bits::Lowest;
 use units::address::Gpa;
 use units::address::Hpa;
 use units::address::Pfn;
+
+// A FREE entry for F, which is operand k and has to be NDA.
+fn free_for(
+    frames: &[u64],
+    domains: &[u64],
+    stock: &[u64],
+    entries: &[u32],
+    x: Found,
+    gpa: Gpa,
+    level: usize,
+    f: Pfn,
+    k: u64,
+) -> Reach
+    ensures { λ r. ⌜ r ≡ freeFor (lent (now (frames .entry)) (now (domains .entry)) (now (stock .entry)) (now (entries .entry))) x gpa level f k ⌝ }
+{
+    if !lookup::is_nda(frames, f) {
+        return Reach::Not(Answer::No(2, k));
+    }
+    entry::entry_for(frames, domains, stock, entries, x, gpa, level, FREE, FREE)
+}
+
+// F joins the tree at an entry, which gets a state.
+fn hangs(
+    frames: usize,
+    x: Found,
+    f: Pfn,
+    fr: Frame,
+    stock: StockEdit,
+    block: usize,
+    index: usize,
+    state: u64,
+) -> Plan
+    ensures { λ r. ⌜ r ≡ hang frames x f fr stock block index state ⌝ }
+{
+    let d = x.dom;
+    let mapped = EntryEdit::Set(block, index, Entry { state, frame: f });
+    change::gains(frames, x, f, fr, PageEdit::Keep, d.listed, stock, mapped)
+}
 
 // F becomes an EPT with the lowest unused table.
 fn sept_at(
@@ -44,11 +79,7 @@ fn sept_at(
 ) -> Plan
     ensures { λ r. ⌜ r ≡ septAt (lent (now (frames .entry)) (now (domains .entry)) (now (stock .entry)) (now (entries .entry))) x gpa level f ⌝ }
 {
-    let fr = tables::frame_at(frames, f);
-    if fr.kind != NDA {
-        return Plan::Say(Answer::No(2, 3));
-    }
-    match entry::entry_for(frames, domains, stock, entries, x, gpa, level, FREE, FREE) {
+    match free_for(frames, domains, stock, entries, x, gpa, level, f, 3) {
         Reach::Not(a) => Plan::Say(a),
         Reach::At(b, i, _) => {
             let tables = sizes::tables_of(domains.len(), entries.len());
@@ -56,30 +87,22 @@ fn sept_at(
                 return Plan::Say(Answer::No(11, 0));
             };
             let tdr = x.tdr;
-            let d = x.dom;
             let ept = Frame {
                 kind: EPT,
                 owner: tdr,
                 number: table as u64,
                 epoch: 0,
+                size: 0,
             };
-            let mapped = EntryEdit::Set(
-                b,
-                i,
-                Entry {
-                    state: NL_MAPPED,
-                    frame: f,
-                },
-            );
-            change::gains(
+            hangs(
                 frames.len(),
                 x,
                 f,
                 ept,
-                PageEdit::Keep,
-                d.listed,
                 StockEdit::Table(table),
-                mapped,
+                b,
+                i,
+                NL_MAPPED,
             )
         }
     }
@@ -98,32 +121,18 @@ fn page_at(
 ) -> Plan
     ensures { λ r. ⌜ r ≡ pageAt (lent (now (frames .entry)) (now (domains .entry)) (now (stock .entry)) (now (entries .entry))) x gpa f state ⌝ }
 {
-    let fr = tables::frame_at(frames, f);
-    if fr.kind != NDA {
-        return Plan::Say(Answer::No(2, 2));
-    }
-    match entry::entry_for(frames, domains, stock, entries, x, gpa, 0, FREE, FREE) {
+    match free_for(frames, domains, stock, entries, x, gpa, 0, f, 2) {
         Reach::Not(a) => Plan::Say(a),
         Reach::At(b, i, _) => {
             let tdr = x.tdr;
-            let d = x.dom;
             let reg = Frame {
                 kind: REG,
                 owner: tdr,
                 number: 0,
                 epoch: 0,
+                size: 0,
             };
-            let mapped = EntryEdit::Set(b, i, Entry { state, frame: f });
-            change::gains(
-                frames.len(),
-                x,
-                f,
-                reg,
-                PageEdit::Keep,
-                d.listed,
-                StockEdit::Keep,
-                mapped,
-            )
+            hangs(frames.len(), x, f, reg, StockEdit::Keep, b, i, state)
         }
     }
 }
@@ -141,23 +150,23 @@ pub fn plan_septadd(
 ) -> Plan
     ensures { λ r. ⌜ r ≡ septaddPlan base (lent (now (frames .entry)) (now (domains .entry)) (now (stock .entry)) (now (entries .entry))) tdr gpa level hpa ⌝ }
 {
-    match lookup::spot_operands(base, frames.len(), tdr, gpa, level, 1) {
-        Operand::Bad(k) => Plan::Say(Answer::No(1, k)),
-        Operand::Frame(n) => match lookup::frame_operand(base, frames.len(), hpa, 3) {
-            Operand::Bad(k) => Plan::Say(Answer::No(1, k)),
-            Operand::Frame(m) => match lookup::find_built(
-                frames,
-                domains,
-                stock,
-                entries,
-                n,
-                INITIALIZED,
-                RUNNABLE,
-            ) {
-                Lookup::Not(a) => Plan::Say(a),
-                Lookup::Is(x) => sept_at(frames, domains, stock, entries, x, gpa, level, m),
-            },
-        },
+    let f = lookup::frame_operand(base, frames.len(), hpa, 3);
+    match lookup::find_spot(
+        base,
+        frames,
+        domains,
+        stock,
+        entries,
+        tdr,
+        gpa,
+        level,
+        1,
+        f,
+        INITIALIZED,
+        RUNNABLE,
+    ) {
+        Parties::Not(a) => Plan::Say(a),
+        Parties::Are(x, m) => sept_at(frames, domains, stock, entries, x, gpa, level, m),
     }
 }
 
@@ -176,22 +185,22 @@ pub fn plan_page(
 ) -> Plan
     ensures { λ r. ⌜ r ≡ pagePlan base (lent (now (frames .entry)) (now (domains .entry)) (now (stock .entry)) (now (entries .entry))) tdr gpa hpa op state ⌝ }
 {
-    match lookup::spot_operands(base, frames.len(), tdr, gpa, 0, 0) {
-        Operand::Bad(k) => Plan::Say(Answer::No(1, k)),
-        Operand::Frame(n) => match lookup::frame_operand(base, frames.len(), hpa, 2) {
-            Operand::Bad(k) => Plan::Say(Answer::No(1, k)),
-            Operand::Frame(m) => match lookup::find_built(
-                frames,
-                domains,
-                stock,
-                entries,
-                n,
-                op,
-                op,
-            ) {
-                Lookup::Not(a) => Plan::Say(a),
-                Lookup::Is(x) => page_at(frames, domains, stock, entries, x, gpa, m, state),
-            },
-        },
+    let f = lookup::frame_operand(base, frames.len(), hpa, 2);
+    match lookup::find_spot(
+        base,
+        frames,
+        domains,
+        stock,
+        entries,
+        tdr,
+        gpa,
+        0,
+        0,
+        f,
+        op,
+        op,
+    ) {
+        Parties::Not(a) => Plan::Say(a),
+        Parties::Are(x, m) => page_at(frames, domains, stock, entries, x, gpa, m, state),
     }
 }

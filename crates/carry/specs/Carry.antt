@@ -42,20 +42,20 @@ afterEntry (entry.Set b i e) es = setEntry es b i e
 unfoldable pub afterUse : StockEdit → List ℕ → List ℕ
 afterUse (stock.Keep) st = st
 afterUse (stock.Table b) st = setUse st b true
-afterUse (stock.Record b r) st = setUse st b true
-afterUse (stock.Give b) st = setUse st b false
+afterUse (stock.Record bit b r) st = setUse st bit true
+afterUse (stock.Give bit) st = setUse st bit false
 
 unfoldable pub afterRecord : StockEdit → List ℕ → List ℕ
 afterRecord (stock.Keep) ds = ds
 afterRecord (stock.Table b) ds = ds
-afterRecord (stock.Record b r) ds = wipedAt recordWords ds r
-afterRecord (stock.Give b) ds = ds
+afterRecord (stock.Record bit b r) ds = wipedAt recordWords ds r
+afterRecord (stock.Give bit) ds = ds
 
 unfoldable pub afterBlock : StockEdit → List ℕ → List ℕ
 afterBlock (stock.Keep) es = es
 afterBlock (stock.Table b) es = wipedAt tableEntries es b
-afterBlock (stock.Record b r) es = wipedAt tableEntries es b
-afterBlock (stock.Give b) es = es
+afterBlock (stock.Record bit b r) es = wipedAt tableEntries es b
+afterBlock (stock.Give bit) es = es
 
 unfoldable pub applied : Edit → Tables → Tables
 applied e t =

@@ -51,8 +51,8 @@ fn apply_use(stock: &mut [u64], e: StockEdit)
     match e {
         StockEdit::Keep => {}
         StockEdit::Table(b) => bits::put_use(stock, b, true),
-        StockEdit::Record(b, _) => bits::put_use(stock, b, true),
-        StockEdit::Give(b) => bits::put_use(stock, b, false),
+        StockEdit::Record(bit, _, _) => bits::put_use(stock, bit, true),
+        StockEdit::Give(bit) => bits::put_use(stock, bit, false),
     }
 }
 
@@ -63,7 +63,7 @@ fn apply_record(domains: &mut [u64], e: StockEdit)
     match e {
         StockEdit::Keep => {}
         StockEdit::Table(_) => {}
-        StockEdit::Record(_, rec) => wipe::wipe_record(domains, rec),
+        StockEdit::Record(_, _, rec) => wipe::wipe_record(domains, rec),
         StockEdit::Give(_) => {}
     }
 }
@@ -75,7 +75,7 @@ fn apply_block(entries: &mut [u32], e: StockEdit)
     match e {
         StockEdit::Keep => {}
         StockEdit::Table(b) => wipe::wipe_block(entries, b),
-        StockEdit::Record(b, _) => wipe::wipe_block(entries, b),
+        StockEdit::Record(_, root, _) => wipe::wipe_block(entries, root),
         StockEdit::Give(_) => {}
     }
 }

@@ -16,18 +16,18 @@ use Rattle.gauge.proofs.Laws.{program-ok}
 use Rattle.stock.specs.Bits.{wordOf, bitSet, inUse, withBit, setUse, lowestFrom, lowestUnused, onLowest}
 use Rattle.stock.specs.Wipe.{wipedAt}
 use Rattle.ledger.specs.Tables.{Tables, frameAt, setFrame, recordWord, setRecordWord, domainAt, setDomain, pageAt, setPage, entryAt, setEntry}
-use Rattle.ledger.specs.Sizes.{tablesOf, rootOf, sizesOf, lengthsOk, sizesOk}
+use Rattle.ledger.specs.Sizes.{tablesOf, bitOf, rootOf, sizesOf, lengthsOk, sizesOk}
 use Rattle.range.specs.Range.{lentOk}
 use Rattle.walk.specs.Walk.{entryType, ownFrame, walkFrom, onWalk}
 use Rattle.calls.specs.Answers.{valuesOf}
 use Rattle.calls.specs.declared.Call.{Call}
-use Rattle.plan.specs.Lookup.{onPlace, onOperand, onLookup, frameOperand, spotOperands, domainFor, builtFor}
+use Rattle.plan.specs.Lookup.{onPlace, onOperand, onLookup, onParties, frameOperand, isNda, domainFor, partiesFor, builtFor, spotOperand, spotFor}
 use Rattle.plan.specs.Changes.{gain, lose}
-use Rattle.domains.specs.Domains.{keyconfigPlan, initPlan, trackPlan, enlistAt, addcxPlan, otherKey, keyUnused, newRecord, createAt, createPlan}
+use Rattle.domains.specs.Domains.{lifePlan, opPlan, trackPlan, enlistAt, addcxPlan, otherKey, keyUnused, newRecord, createAt, createPlan}
 use Rattle.plan.specs.Entries.{entryFor, onReach, blockedState, isTracked}
 use Rattle.adds.specs.Adds as adds
-use Rattle.adds.specs.Adds.{septAt, septaddPlan, pagePlan}
-use Rattle.trees.specs.Trees.{blockAt, blockPlan, pageremoveAt, pageremovePlan}
+use Rattle.adds.specs.Adds.{freeFor, septAt, septaddPlan, pagePlan}
+use Rattle.trees.specs.Trees.{trackedFor, blockAt, blockPlan, pageremoveAt, pageremovePlan}
 use Rattle.pages.specs.Pages.{readpagePlan}
 use Rattle.carry.specs.Carry.{afterFrame, afterPage, afterDomain, afterEntry, afterUse, afterRecord, afterBlock, applied, carried}
 use Rattle.host.specs.Calls.{planOf, settled, ruleOf, callOf}
@@ -58,5 +58,5 @@ checked c n e = λ g r k. ap valuesOf (past-13 (run fresh (c .before)) g (c .the
 
 -- Every marked case of the paper answers as it says.
 pub marked-right : AllRight marked
-unfolding AllRight marked iff given between frameOf hpaOf rowOf gpaFits indexAt wordOf bitSet inUse withBit setUse lowestFrom lowestUnused onLowest wipedAt frameAt setFrame recordWord setRecordWord domainAt setDomain pageAt setPage entryAt setEntry tablesOf rootOf sizesOf entryType ownFrame walkFrom onWalk valuesOf onPlace onOperand onLookup frameOperand spotOperands domainFor builtFor gain lose keyconfigPlan initPlan trackPlan enlistAt addcxPlan otherKey keyUnused newRecord createAt createPlan entryFor onReach blockedState isTracked septAt adds.pageAt septaddPlan pagePlan blockAt blockPlan pageremoveAt pageremovePlan readpagePlan afterFrame afterPage afterDomain afterEntry afterUse afterRecord afterBlock applied carried planOf run allFrom
+unfolding AllRight marked iff given between frameOf hpaOf rowOf gpaFits indexAt wordOf bitSet inUse withBit setUse lowestFrom lowestUnused onLowest wipedAt frameAt setFrame recordWord setRecordWord domainAt setDomain pageAt setPage entryAt setEntry tablesOf rootOf sizesOf entryType ownFrame walkFrom onWalk valuesOf onPlace onOperand onLookup frameOperand domainFor builtFor gain lose trackPlan enlistAt addcxPlan otherKey keyUnused newRecord createAt createPlan entryFor onReach blockedState isTracked septAt adds.pageAt septaddPlan pagePlan blockAt blockPlan pageremoveAt pageremovePlan readpagePlan afterFrame afterPage afterDomain afterEntry afterUse afterRecord afterBlock applied carried planOf run allFrom bitOf onParties isNda partiesFor spotOperand spotFor lifePlan opPlan freeFor trackedFor
 marked-right = (checked line1 refl refl, (checked line2 refl refl, (checked line3 refl refl, (checked line4 refl refl, (checked line6 refl refl, (checked line7 refl refl, (checked line8 refl refl, (checked line9 refl refl, (checked gpaFits1 refl refl, (checked gpaUnaligned refl refl, (checked gpaTooBig refl refl, (checked notTracked refl refl, (checked trackedNow refl refl, tt)))))))))))))

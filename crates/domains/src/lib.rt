@@ -1,13 +1,11 @@
 // The calls on a domain's record: create, keyconfig, addcx, init, finalize, track, flushdone, keyfree.
 ghost use mathlib.Core.Path.{_≡_};
 ghost use Rattle.ledger.specs.Tables.{lent};
-ghost use Rattle.domains.specs.Domains.{keyconfigPlan, initPlan, finalizePlan, trackPlan, flushdonePlan, keyfreePlan, enlistAt, addcxPlan, otherKey, keyUnused, newRecord, createAt, createPlan};
+ghost use Rattle.domains.specs.Domains.{lifePlan, opPlan, trackPlan, enlistAt, addcxPlan, otherKey, keyUnused, newRecord, createAt, createPlan};
 use calls::Answer;
 use ledger::codes::ASSIGNED;
-use ledger::codes::BLOCKED_LIFE;
 use ledger::codes::CONFIGURED;
 use ledger::codes::INITIALIZED;
-use ledger::codes::NDA;
 use ledger::codes::RUNNABLE;
 use ledger::codes::TDCX;
 use ledger::codes::TDR;
@@ -27,8 +25,9 @@ use plan::edit::Plan;
 use plan::edit::StockEdit;
 use plan::lookup;
 use plan::lookup::Found;
-use plan::lookup::Lookup;
+use plan::lookup::NO_FRAME;
 use plan::lookup::Operand;
+use plan::lookup::Parties;
 use stock::bits;
 use stock::bits::Lowest;
 use units::address::Hpa;
@@ -37,90 +36,59 @@ use units::limits;
 use units::limits::CONTROL_PAGES;
 use units::limits::EPOCH_LEAST;
 use units::limits::EPOCH_MOST;
-use units::limits::TABLE_ENTRIES;
 
-pub fn plan_keyconfig(
+// keyconfig, flushdone and keyfree: the lifecycle from `least` to `most`, and what it becomes.
+pub fn plan_life(
     base: Hpa,
     frames: &[u64],
     domains: &[u64],
     stock: &[u64],
     entries: &[u32],
     tdr: Hpa,
+    least: u64,
+    most: u64,
+    life: u64,
 ) -> Plan
-    ensures { λ r. ⌜ r ≡ keyconfigPlan base (lent (now (frames .entry)) (now (domains .entry)) (now (stock .entry)) (now (entries .entry))) tdr ⌝ }
+    ensures { λ r. ⌜ r ≡ lifePlan base (lent (now (frames .entry)) (now (domains .entry)) (now (stock .entry)) (now (entries .entry))) tdr least most life ⌝ }
 {
-    match lookup::frame_operand(base, frames.len(), tdr, 0) {
-        Operand::Bad(k) => Plan::Say(Answer::No(1, k)),
-        Operand::Frame(n) => match lookup::find_domain(frames, domains, stock, entries, n) {
-            Lookup::Not(a) => Plan::Say(a),
-            Lookup::Is(x) => {
-                let d = x.dom;
-                if d.life != ASSIGNED {
-                    return Plan::Say(Answer::No(3, 0));
-                }
-                change::becomes(x, change::with_life(d, CONFIGURED))
+    match lookup::find_parties(base, frames, domains, stock, entries, tdr, NO_FRAME) {
+        Parties::Not(a) => Plan::Say(a),
+        Parties::Are(x, _) => {
+            let d = x.dom;
+            if !limits::is_between(least, d.life, most) {
+                return Plan::Say(Answer::No(3, 0));
             }
-        },
+            change::becomes(x, change::with_life(d, life))
+        }
     }
 }
 
-pub fn plan_init(
+// init and finalize: the op state asked for, and what it becomes.
+pub fn plan_op(
     base: Hpa,
     frames: &[u64],
     domains: &[u64],
     stock: &[u64],
     entries: &[u32],
     tdr: Hpa,
+    from: u64,
+    op: u64,
 ) -> Plan
-    ensures { λ r. ⌜ r ≡ initPlan base (lent (now (frames .entry)) (now (domains .entry)) (now (stock .entry)) (now (entries .entry))) tdr ⌝ }
+    ensures { λ r. ⌜ r ≡ opPlan base (lent (now (frames .entry)) (now (domains .entry)) (now (stock .entry)) (now (entries .entry))) tdr from op ⌝ }
 {
-    match lookup::frame_operand(base, frames.len(), tdr, 0) {
-        Operand::Bad(k) => Plan::Say(Answer::No(1, k)),
-        Operand::Frame(n) => match lookup::find_built(
-            frames,
-            domains,
-            stock,
-            entries,
-            n,
-            UNINITIALIZED,
-            UNINITIALIZED,
-        ) {
-            Lookup::Not(a) => Plan::Say(a),
-            Lookup::Is(x) => {
-                let d = x.dom;
-                change::becomes(x, change::with_op(d, INITIALIZED))
-            }
-        },
-    }
-}
-
-pub fn plan_finalize(
-    base: Hpa,
-    frames: &[u64],
-    domains: &[u64],
-    stock: &[u64],
-    entries: &[u32],
-    tdr: Hpa,
-) -> Plan
-    ensures { λ r. ⌜ r ≡ finalizePlan base (lent (now (frames .entry)) (now (domains .entry)) (now (stock .entry)) (now (entries .entry))) tdr ⌝ }
-{
-    match lookup::frame_operand(base, frames.len(), tdr, 0) {
-        Operand::Bad(k) => Plan::Say(Answer::No(1, k)),
-        Operand::Frame(n) => match lookup::find_built(
-            frames,
-            domains,
-            stock,
-            entries,
-            n,
-            INITIALIZED,
-            INITIALIZED,
-        ) {
-            Lookup::Not(a) => Plan::Say(a),
-            Lookup::Is(x) => {
-                let d = x.dom;
-                change::becomes(x, change::with_op(d, RUNNABLE))
-            }
-        },
+    match lookup::find_built(
+        base,
+        frames,
+        domains,
+        stock,
+        entries,
+        tdr,
+        NO_FRAME,
+        from,
+        from,
+    ) {
+        Parties::Not(a) => Plan::Say(a),
+        Parties::Are(x, _) => change::becomes(x, change::with_op(x.dom, op)),
     }
 }
 
@@ -134,89 +102,31 @@ pub fn plan_track(
 ) -> Plan
     ensures { λ r. ⌜ r ≡ trackPlan base (lent (now (frames .entry)) (now (domains .entry)) (now (stock .entry)) (now (entries .entry))) tdr ⌝ }
 {
-    match lookup::frame_operand(base, frames.len(), tdr, 0) {
-        Operand::Bad(k) => Plan::Say(Answer::No(1, k)),
-        Operand::Frame(n) => match lookup::find_built(
-            frames,
-            domains,
-            stock,
-            entries,
-            n,
-            INITIALIZED,
-            RUNNABLE,
-        ) {
-            Lookup::Not(a) => Plan::Say(a),
-            Lookup::Is(x) => {
-                let d = x.dom;
-                if d.epoch >= EPOCH_MOST {
-                    return Plan::Say(Answer::No(12, 0));
-                }
-                change::becomes(x, change::with_epoch(d, d.epoch + 1))
+    match lookup::find_built(
+        base,
+        frames,
+        domains,
+        stock,
+        entries,
+        tdr,
+        NO_FRAME,
+        INITIALIZED,
+        RUNNABLE,
+    ) {
+        Parties::Not(a) => Plan::Say(a),
+        Parties::Are(x, _) => {
+            let d = x.dom;
+            if d.epoch >= EPOCH_MOST {
+                return Plan::Say(Answer::No(12, 0));
             }
-        },
-    }
-}
-
-pub fn plan_flushdone(
-    base: Hpa,
-    frames: &[u64],
-    domains: &[u64],
-    stock: &[u64],
-    entries: &[u32],
-    tdr: Hpa,
-) -> Plan
-    ensures { λ r. ⌜ r ≡ flushdonePlan base (lent (now (frames .entry)) (now (domains .entry)) (now (stock .entry)) (now (entries .entry))) tdr ⌝ }
-{
-    match lookup::frame_operand(base, frames.len(), tdr, 0) {
-        Operand::Bad(k) => Plan::Say(Answer::No(1, k)),
-        Operand::Frame(n) => match lookup::find_domain(frames, domains, stock, entries, n) {
-            Lookup::Not(a) => Plan::Say(a),
-            Lookup::Is(x) => {
-                let d = x.dom;
-                if d.life > CONFIGURED {
-                    return Plan::Say(Answer::No(3, 0));
-                }
-                change::becomes(x, change::with_life(d, BLOCKED_LIFE))
-            }
-        },
-    }
-}
-
-pub fn plan_keyfree(
-    base: Hpa,
-    frames: &[u64],
-    domains: &[u64],
-    stock: &[u64],
-    entries: &[u32],
-    tdr: Hpa,
-) -> Plan
-    ensures { λ r. ⌜ r ≡ keyfreePlan base (lent (now (frames .entry)) (now (domains .entry)) (now (stock .entry)) (now (entries .entry))) tdr ⌝ }
-{
-    match lookup::frame_operand(base, frames.len(), tdr, 0) {
-        Operand::Bad(k) => Plan::Say(Answer::No(1, k)),
-        Operand::Frame(n) => match lookup::find_domain(frames, domains, stock, entries, n) {
-            Lookup::Not(a) => Plan::Say(a),
-            Lookup::Is(x) => {
-                let d = x.dom;
-                if d.life != BLOCKED_LIFE {
-                    return Plan::Say(Answer::No(3, 0));
-                }
-                change::becomes(x, change::with_life(d, TEARDOWN))
-            }
-        },
+            change::becomes(x, change::with_epoch(d, d.epoch + 1))
+        }
     }
 }
 
 // A control page more: the state's 3, the list's 4, F's 2.
-fn enlists(
-    frames: &[u64],
-    domains: &[u64],
-    stock: &[u64],
-    entries: &[u32],
-    x: Found,
-    f: Pfn,
-) -> Plan
-    ensures { λ r. ⌜ r ≡ enlistAt (lent (now (frames .entry)) (now (domains .entry)) (now (stock .entry)) (now (entries .entry))) x f ⌝ }
+fn enlists(frames: &[u64], x: Found, f: Pfn) -> Plan
+    ensures { λ r. ⌜ r ≡ enlistAt (now (frames .entry)) x f ⌝ }
 {
     let d = x.dom;
     if d.life != CONFIGURED {
@@ -225,8 +135,7 @@ fn enlists(
     if d.listed >= (CONTROL_PAGES as u64) {
         return Plan::Say(Answer::No(4, 0));
     }
-    let fr = tables::frame_at(frames, f);
-    if fr.kind != NDA {
+    if !lookup::is_nda(frames, f) {
         return Plan::Say(Answer::No(2, 1));
     }
     let tdr = x.tdr;
@@ -236,6 +145,7 @@ fn enlists(
         owner: tdr,
         number: 0,
         epoch: 0,
+        size: 0,
     };
     change::gains(
         frames.len(),
@@ -260,56 +170,36 @@ pub fn plan_addcx(
 ) -> Plan
     ensures { λ r. ⌜ r ≡ addcxPlan base (lent (now (frames .entry)) (now (domains .entry)) (now (stock .entry)) (now (entries .entry))) tdr hpa ⌝ }
 {
-    match lookup::frame_operand(base, frames.len(), tdr, 0) {
-        Operand::Bad(k) => Plan::Say(Answer::No(1, k)),
-        Operand::Frame(n) => match lookup::frame_operand(base, frames.len(), hpa, 1) {
-            Operand::Bad(k) => Plan::Say(Answer::No(1, k)),
-            Operand::Frame(m) => match lookup::find_domain(frames, domains, stock, entries, n) {
-                Lookup::Not(a) => Plan::Say(a),
-                Lookup::Is(x) => enlists(frames, domains, stock, entries, x, m),
-            },
-        },
+    let f = lookup::frame_operand(base, frames.len(), hpa, 1);
+    match lookup::find_parties(base, frames, domains, stock, entries, tdr, f) {
+        Parties::Not(a) => Plan::Say(a),
+        Parties::Are(x, m) => enlists(frames, x, m),
     }
 }
 
-// Whether the record at a block, if it is in use and before teardown, has another key.
-fn other_key(
-    frames: &[u64],
-    domains: &[u64],
-    stock: &[u64],
-    entries: &[u32],
-    first: usize,
-    key: u64,
-    block: usize,
-) -> bool
-    ensures { λ r. ⌜ r ≡ otherKey (lent (now (frames .entry)) (now (domains .entry)) (now (stock .entry)) (now (entries .entry))) first key block ⌝ }
+// Whether the record of an in-use bit, if it is in use and before teardown, has another key.
+fn other_key(domains: &[u64], stock: &[u64], first: usize, key: u64, bit: usize) -> bool
+    ensures { λ r. ⌜ r ≡ otherKey (now (domains .entry)) (now (stock .entry)) first key bit ⌝ }
 {
-    if !bits::in_use(stock, block) {
+    if !bits::in_use(stock, bit) {
         return true;
     }
-    let d = tables::domain_at(domains, sizes::minus(block, first));
+    let d = tables::domain_at(domains, sizes::minus(bit, first));
     if d.key != key {
         return true;
     }
     d.life == TEARDOWN
 }
 
-fn key_unused(
-    frames: &[u64],
-    domains: &[u64],
-    stock: &[u64],
-    entries: &[u32],
-    first: usize,
-    key: u64,
-) -> bool
-    ensures { λ r. ⌜ r ≡ keyUnused (lent (now (frames .entry)) (now (domains .entry)) (now (stock .entry)) (now (entries .entry))) first key ⌝ }
+fn key_unused(domains: &[u64], stock: &[u64], first: usize, end: usize, key: u64) -> bool
+    ensures { λ r. ⌜ r ≡ keyUnused (now (domains .entry)) (now (stock .entry)) first end key ⌝ }
 {
-    let mut block = first;
-    while block < entries.len() / TABLE_ENTRIES {
-        if !other_key(frames, domains, stock, entries, first, key, block) {
+    let mut bit = first;
+    while bit < end {
+        if !other_key(domains, stock, first, key, bit) {
             return false;
         }
-        block += 1;
+        bit += 1;
     }
     true
 }
@@ -324,22 +214,24 @@ fn creates(
 ) -> Plan
     ensures { λ r. ⌜ r ≡ createAt (lent (now (frames .entry)) (now (domains .entry)) (now (stock .entry)) (now (entries .entry))) f key ⌝ }
 {
-    let fr = tables::frame_at(frames, f);
-    if fr.kind != NDA {
+    if !lookup::is_nda(frames, f) {
         return Plan::Say(Answer::No(2, 0));
     }
     let first = sizes::tables_of(domains.len(), entries.len());
-    if !key_unused(frames, domains, stock, entries, first, key) {
+    let end = sizes::bits_of(domains.len(), entries.len());
+    if !key_unused(domains, stock, first, end, key) {
         return Plan::Say(Answer::No(10, 1));
     }
-    let Lowest::At(root) = bits::lowest_unused(stock, first, entries.len() / TABLE_ENTRIES) else {
+    let Lowest::At(bit) = bits::lowest_unused(stock, first, end) else {
         return Plan::Say(Answer::No(11, 0));
     };
-    new_record(f, key, root, sizes::minus(root, first))
+    let rec = sizes::minus(bit, first);
+    let root = sizes::root_of(domains.len(), entries.len(), rec);
+    new_record(f, key, bit, root, rec)
 }
 
-fn new_record(f: Pfn, key: u64, root: usize, rec: usize) -> Plan
-    ensures { λ r. ⌜ r ≡ newRecord f key root rec ⌝ }
+fn new_record(f: Pfn, key: u64, bit: usize, root: usize, rec: usize) -> Plan
+    ensures { λ r. ⌜ r ≡ newRecord f key bit root rec ⌝ }
 {
     Plan::Do(Edit {
         frame: FrameEdit::Set(
@@ -349,6 +241,7 @@ fn new_record(f: Pfn, key: u64, root: usize, rec: usize) -> Plan
                 owner: Pfn(0),
                 number: rec as u64,
                 epoch: 0,
+                size: 0,
             },
         ),
         page: PageEdit::Keep,
@@ -361,9 +254,10 @@ fn new_record(f: Pfn, key: u64, root: usize, rec: usize) -> Plan
                 listed: 0,
                 children: 0,
                 epoch: EPOCH_LEAST,
+                width: 0,
             },
         ),
-        stock: StockEdit::Record(root, rec),
+        stock: StockEdit::Record(bit, root, rec),
         entry: EntryEdit::Keep,
     })
 }

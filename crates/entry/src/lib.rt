@@ -6,7 +6,6 @@ ghost use Rattle.asks.specs.Asks.{askOf};
 use calls::Answer;
 use calls::Ask;
 use gauge::Gauge;
-use host::call::Reply;
 use units::address::Hpa;
 
 // The thin entry: the lent gauge is copied out, and the gauge that came back is stored in its place.
@@ -24,24 +23,4 @@ pub fn enter(
     let r = asks::answer_ask(base, frames, domains, stock, entries, *g, ask);
     *g = r.gauge;
     r.answer
-}
-
-// The entry for a caller that holds its gauge by value: the borrow checker covers no loop that lends one.
-pub fn entered(
-    base: Hpa,
-    frames: &mut [u64],
-    domains: &mut [u64],
-    stock: &mut [u64],
-    entries: &mut [u32],
-    g: Gauge,
-    ask: Ask,
-) -> Reply
-    ensures { λ r. ⌜ outcome (r .answer) (lent (now (frames .exit)) (now (domains .exit)) (now (stock .exit)) (now (entries .exit))) (r .gauge) ≡ askOf base (lent (now (frames .entry)) (now (domains .entry)) (now (stock .entry)) (now (entries .entry))) g ask ⌝ }
-{
-    let mut held = g;
-    let answer = enter(base, frames, domains, stock, entries, &mut held, ask);
-    Reply {
-        answer,
-        gauge: held,
-    }
 }

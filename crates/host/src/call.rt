@@ -5,10 +5,15 @@ ghost use Rattle.host.specs.Calls.{planOf, outcome, gaugeAfter, ruleOf, 
 use calls::Answer;
 use calls::Call;
 use gauge::Gauge;
+use ledger::codes::ASSIGNED;
+use ledger::codes::BLOCKED_LIFE;
+use ledger::codes::CONFIGURED;
 use ledger::codes::INITIALIZED;
 use ledger::codes::MAPPED;
 use ledger::codes::PENDING;
 use ledger::codes::RUNNABLE;
+use ledger::codes::TEARDOWN;
+use ledger::codes::UNINITIALIZED;
 use ledger::count;
 use plan::edit::Plan;
 use units::address::Hpa;
@@ -31,9 +36,28 @@ fn plan_of(
 {
     match c {
         Call::Create(f, key) => domains::plan_create(base, frames, domains, stock, entries, f, key),
-        Call::KeyConfig(d) => domains::plan_keyconfig(base, frames, domains, stock, entries, d),
+        Call::KeyConfig(d) => domains::plan_life(
+            base,
+            frames,
+            domains,
+            stock,
+            entries,
+            d,
+            ASSIGNED,
+            ASSIGNED,
+            CONFIGURED,
+        ),
         Call::AddCx(d, f) => domains::plan_addcx(base, frames, domains, stock, entries, d, f),
-        Call::Init(d) => domains::plan_init(base, frames, domains, stock, entries, d),
+        Call::Init(d) => domains::plan_op(
+            base,
+            frames,
+            domains,
+            stock,
+            entries,
+            d,
+            UNINITIALIZED,
+            INITIALIZED,
+        ),
         Call::SeptAdd(d, gpa, level, f) => adds::plan_septadd(
             base,
             frames,
@@ -57,7 +81,16 @@ fn plan_of(
             INITIALIZED,
             MAPPED,
         ),
-        Call::Finalize(d) => domains::plan_finalize(base, frames, domains, stock, entries, d),
+        Call::Finalize(d) => domains::plan_op(
+            base,
+            frames,
+            domains,
+            stock,
+            entries,
+            d,
+            INITIALIZED,
+            RUNNABLE,
+        ),
         Call::PageAug(d, gpa, f) => adds::plan_page(
             base,
             frames,
@@ -110,8 +143,28 @@ fn plan_of(
             gpa,
             level,
         ),
-        Call::FlushDone(d) => domains::plan_flushdone(base, frames, domains, stock, entries, d),
-        Call::KeyFree(d) => domains::plan_keyfree(base, frames, domains, stock, entries, d),
+        Call::FlushDone(d) => domains::plan_life(
+            base,
+            frames,
+            domains,
+            stock,
+            entries,
+            d,
+            ASSIGNED,
+            CONFIGURED,
+            BLOCKED_LIFE,
+        ),
+        Call::KeyFree(d) => domains::plan_life(
+            base,
+            frames,
+            domains,
+            stock,
+            entries,
+            d,
+            BLOCKED_LIFE,
+            BLOCKED_LIFE,
+            TEARDOWN,
+        ),
         Call::Reclaim(f) => pages::plan_reclaim(base, frames, domains, stock, entries, f),
         Call::ReadPage(f) => pages::plan_readpage(base, frames, domains, stock, entries, f),
         Call::ReadEntry(d, gpa, level) => trees::plan_readentry(

@@ -10,7 +10,7 @@ use lib.ListN.{length}
 use borrow.Author.Tests.{eqb-true, ltb-true, leb-true, eq-eqb, ne-eqb, lt-ltb, le-ltb}
 use Rattle.rules.specs.Rule.{iff}
 use Rattle.rules.proofs.Steps.{iff-both, both-left, both-right}
-use Rattle.units.specs.Limits.{controlPages, mostExponent}
+use Rattle.units.specs.Limits.{controlPages, framesMost}
 use Rattle.units.specs.declared.address.Hpa.{Hpa}
 use Rattle.units.specs.declared.address.Pfn.{Pfn}
 use Rattle.ledger.specs.Codes.{PENDING-BLOCKED}
@@ -62,7 +62,7 @@ pub data StockSound (t : Tables) : StockEdit → Type 0 where
   stock-takes : {b : ℕ} → b < sizesIn t .tables → StockSound t (stocks.Table b)
   stock-gives : {b : ℕ} → b < sizesIn t .tables + sizesIn t .records → StockSound t (stocks.Give b)
 
-entry-fits : (n : ℕ) (v : Entry) → n ≤ 2 ^ mostExponent → entryGood n v ≡ true → EntryFits v
+entry-fits : (n : ℕ) (v : Entry) → n ≤ framesMost → entryGood n v ≡ true → EntryFits v
 entry-fits n v h g = record {
   state = omega (arith, leb-true (v .state) PENDING-BLOCKED (both-left _ _ g));
   frame = iff-both (λ (x : Bool). x ≡ true → v .frame .0 < 2 ^ 29) _ _ _ (λ _ q. omega (arith, eqb-true (v .frame .0) 0 q)) (λ _ q. omega (arith, ltb-true (v .frame .0) n q)) (both-right _ _ g);
@@ -226,7 +226,7 @@ module _ (base : Hpa) (t : Tables) (ok : Lent base t) {fe : FrameEdit} (fs : Fra
   z₃ = sized base t (ok .sizes)
 
   e₃ : Edit
-  e₃ = edit fe (pages.Keep) (domains.Set r v) (stocks.Record b r) (entries.Keep)
+  e₃ = edit fe (pages.Keep) (domains.Set r v) (stocks.Record b b r) (entries.Keep)
 
   within₃ : Within t e₃
   unfolding e₃
@@ -243,7 +243,7 @@ module _ (base : Hpa) (t : Tables) (ok : Lent base t) {fe : FrameEdit} (fs : Fra
 
   own-now₃ : view (applied e₃ t) .domain r ≡ v
   unfolding e₃ newDomain
-  own-now₃ = a₃ .domains r ∙ stored-same (wipedDomain (stocks.Record b r) (view t .domain)) r v
+  own-now₃ = a₃ .domains r ∙ stored-same (wipedDomain (stocks.Record b b r) (view t .domain)) r v
 
   domains-now₃ : (k : ℕ) → (k ≡ r → ⊥) → view (applied e₃ t) .domain k ≡ view t .domain k
   unfolding e₃ newDomain wipedDomain
@@ -272,6 +272,6 @@ module _ (base : Hpa) (t : Tables) (ok : Lent base t) {fe : FrameEdit} (fs : Fra
           let g = ok .ranged .record′ k h (sym (uses-now₃ (sizesIn t .tables + k) (λ x. q (omega arith))) ∙ u) in
           record-same (length (t .frames)) (rw (domains-now₃ k q) (g .scalars)) (ap (λ (x : Domain). x .listed) (domains-now₃ k q)) (λ i. pages-now₃ k i q) g
 
-  pub keep-taken : Kept base t (edit fe (pages.Keep) (domains.Set r v) (stocks.Record b r) (entries.Keep))
+  pub keep-taken : Kept base t (edit fe (pages.Keep) (domains.Set r v) (stocks.Record b b r) (entries.Keep))
   unfolding e₃
   keep-taken = record { within = within₃; lent = lent-after base t e₃ ok within₃ records-now₃ }

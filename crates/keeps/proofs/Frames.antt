@@ -3,12 +3,13 @@ use mathlib.Core.Path.{_≡_, refl}
 use mathlib.Core.Bool.{true}
 use Prim.Native.Nat.{ℕ, _+_, _<_, _≤_}
 use native.Mathlib.Omega.{arith}
-use borrow.Author.Tests.{lt-ltb}
+use borrow.Author.Tests.{lt-ltb, ltb-true}
 use Rattle.rules.specs.Rule.{iff}
-use Rattle.rules.proofs.Steps.{both-left, both-right}
+use Rattle.rules.proofs.Steps.{both-left, both-right, iff-both}
 use Rattle.units.specs.Limits.{epochMost}
 use Rattle.ledger.specs.Codes.{EPT, REG}
 use Rattle.range.specs.Range.{frameLimits}
+use Rattle.range.specs.declared.FrameLimits.{FrameLimits}
 use Rattle.ledger.specs.Tables.{Tables, frameAt}
 use Rattle.ledger.specs.Words.{FrameFits}
 use Rattle.ledger.specs.declared.sizes.Sizes.{Sizes}
@@ -48,8 +49,24 @@ module _ (z : Sizes) where
 
   -- a blocked frame
   pub dated-good : (f : Frame) (e : ℕ) → frameLimits z (f .kind) .epoch ≡ epochMost + 1 → e ≤ epochMost → frameGood z f ≡ true → frameGood z (withFrameEpoch f e) ≡ true
-  dated-good f e k h g = both-of _ _ (both-left _ _ g) (both-of _ _ (both-left _ _ (both-right _ _ g)) (lt-ltb e (frameLimits z (f .kind) .epoch) (omega arith)))
+  dated-good f e k h g =
+      both-of _ _ (both-left _ _ g)
+      (both-of _ _ (both-left _ _ (both-right _ _ g))
+      (both-of _ _ (lt-ltb e (frameLimits z (f .kind) .epoch) (omega arith)) (both-right _ _ (both-right _ _ (both-right _ _ g)))))
 
-pub dated-fits : (t : Tables) (f e : ℕ) → e ≤ epochMost → FrameFits (withFrameEpoch (view t .frame f) e)
+-- no type has another size than 0
+size-limit : (z : Sizes) (k : ℕ) → frameLimits z k .size ≤ 1
+unfolding frameLimits
+size-limit z k =
+    let P : FrameLimits → Type 0 = λ l. l .size ≤ 1 in
+    iff-both P _ _ _ (λ _. omega arith)
+    (λ _. iff-both P _ _ _ (λ _. omega arith)
+    (λ _. iff-both P _ _ _ (λ _. omega arith)
+    (λ _. iff-both P _ _ _ (λ _. omega arith)
+    (λ _. iff-both P _ _ _ (λ _. omega arith) (λ _. omega arith)))))
+
+pub dated-fits : (z : Sizes) (t : Tables) (f e : ℕ) → frameGood z (view t .frame f) ≡ true → e ≤ epochMost → FrameFits (withFrameEpoch (view t .frame f) e)
 unfolding frameAt
-dated-fits t f e h = record { kind = omega arith; owner = omega arith; number = omega arith; epoch = omega arith }
+dated-fits z t f e g h =
+    let s : view t .frame f .size < frameLimits z (view t .frame f .kind) .size = ltb-true _ _ (both-right _ _ (both-right _ _ (both-right _ _ g))) in
+    record { kind = omega arith; owner = omega arith; number = omega arith; epoch = omega arith; size = omega (arith, s, size-limit z (view t .frame f .kind)) }

@@ -10,7 +10,7 @@ use lib.Pow.{pow-pos}
 use borrow.Author.Tests.{lt-ltb}
 use Rattle.units.specs.Limits.{tableEntries}
 use Rattle.units.specs.declared.address.Hpa.{Hpa}
-use Rattle.stock.specs.Bits.{wordOf, inUse, spareClear}
+use Rattle.stock.specs.Bits.{wordBits, wordOf, inUse, spareClear}
 use Rattle.stock.proofs.Bit.{clear-of-lt}
 use Rattle.ledger.specs.Tables.{Tables, lent, frameAt}
 use Rattle.ledger.specs.Words.{frameOf}
@@ -37,15 +37,15 @@ zero-frame n f = ap frameOf (zero-at n f)
 
 zero-word : (n b : ℕ) → wordOf (zeroes n) b ≡ 0
 unfolding wordOf
-zero-word n b = zero-at n (b / 64)
+zero-word n b = zero-at n (b / wordBits)
 
 pub zero-unused : (n b : ℕ) → inUse (zeroes n) b ≡ false
 unfolding inUse
-zero-unused n b = clear-of-lt (wordOf (zeroes n) b) (b % 64) (rw (zero-word n b) (pow-pos (b % 64)))
+zero-unused n b = clear-of-lt (wordOf (zeroes n) b) (b % wordBits) (rw (zero-word n b) (pow-pos (b % wordBits)))
 
 zero-spare : (n b : ℕ) → spareClear (zeroes n) b ≡ true
 unfolding spareClear
-zero-spare n b = lt-ltb (wordOf (zeroes n) b) (2 ^ (b % 64)) (rw (zero-word n b) (pow-pos (b % 64)))
+zero-spare n b = lt-ltb (wordOf (zeroes n) b) (2 ^ (b % wordBits)) (rw (zero-word n b) (pow-pos (b % wordBits)))
 
 abbrev pub zeros : Tables → Tables
 zeros t = lent (zeroes (length (t .frames))) (zeroes (length (t .domains))) (zeroes (length (t .stock))) (zeroes (length (t .entries)))

@@ -14,7 +14,7 @@ use Rattle.rules.proofs.Steps.{iff-both}
 use Rattle.units.specs.Limits.{tableEntries}
 use Rattle.units.specs.declared.address.Hpa.{Hpa}
 use Rattle.stock.proofs.Bit.{room}
-use Rattle.stock.specs.Bits.{wordOf, bitSet, withBit, setUse, spareClear}
+use Rattle.stock.specs.Bits.{wordBits, wordOf, bitSet, withBit, setUse, spareClear}
 use Rattle.ledger.specs.Tables.{Tables}
 use Rattle.ledger.specs.Words.{entryOf}
 use Rattle.ledger.specs.declared.sizes.Sizes.{Sizes}
@@ -22,7 +22,6 @@ use Rattle.ledger.specs.declared.words.Frame.{Frame}
 use Rattle.ledger.specs.declared.words.Entry.{Entry}
 use Rattle.plan.specs.declared.edit.FrameEdit.{FrameEdit}
 use Rattle.plan.specs.declared.edit.StockEdit.{StockEdit}
-use Rattle.plan.specs.declared.edit.StockEdit.the-variants as stock
 use Rattle.plan.specs.declared.edit.EntryEdit.{EntryEdit}
 use Rattle.plan.specs.declared.edit.Edit.{Edit}
 use Rattle.carry.specs.Carry.{afterUse, applied}
@@ -40,17 +39,17 @@ with-below w k m on h l =
     (λ e. iff-both (λ (x : ℕ). x < 2 ^ m) on w (w - 2 ^ k) (λ _. l) (λ _. omega arith))
     (λ e. iff-both (λ (x : ℕ). x < 2 ^ m) on (w + 2 ^ k) w (λ _. room m k w h l (omega (arith, eqb-false (w / 2 ^ k % 2) 1 e))) (λ _. l))
 
-use-spare : (ws : List ℕ) (n b : ℕ) (on : Bool) → b < n → b / 64 < length ws → spareClear ws n ≡ true → spareClear (setUse ws b on) n ≡ true
+use-spare : (ws : List ℕ) (n b : ℕ) (on : Bool) → b < n → b / wordBits < length ws → spareClear ws n ≡ true → spareClear (setUse ws b on) n ≡ true
 unfolding spareClear setUse wordOf
-use-spare ws n b on h l e = lt-ltb _ _ (go (ℕ-discrete (n / 64) (b / 64)))
+use-spare ws n b on h l e = lt-ltb _ _ (go (ℕ-discrete (n / wordBits) (b / wordBits)))
   where
-    was : getD ws (n / 64) 0 < 2 ^ (n % 64)
+    was : getD ws (n / wordBits) 0 < 2 ^ (n % wordBits)
     was = ltb-true _ _ e
 
-    go : Dec (n / 64 ≡ b / 64) → getD (set ws (b / 64) (withBit (getD ws (b / 64) 0) (b % 64) on)) (n / 64) 0 < 2 ^ (n % 64)
-    go (yes q) = rw (q, getD-set-same ws (b / 64) (withBit (getD ws (b / 64) 0) (b % 64) on) 0 l)
-        (with-below (getD ws (b / 64) 0) (b % 64) (n % 64) on (omega arith) (rw q at was))
-    go (no q) = rw (getD-set-other ws (b / 64) (n / 64) (withBit (getD ws (b / 64) 0) (b % 64) on) 0 q) was
+    go : Dec (n / wordBits ≡ b / wordBits) → getD (set ws (b / wordBits) (withBit (getD ws (b / wordBits) 0) (b % wordBits) on)) (n / wordBits) 0 < 2 ^ (n % wordBits)
+    go (yes q) = rw (q, getD-set-same ws (b / wordBits) (withBit (getD ws (b / wordBits) 0) (b % wordBits) on) 0 l)
+        (with-below (getD ws (b / wordBits) 0) (b % wordBits) (n % wordBits) on (omega arith) (rw q at was))
+    go (no q) = rw (getD-set-other ws (b / wordBits) (n / wordBits) (withBit (getD ws (b / wordBits) 0) (b % wordBits) on) 0 q) was
 
 spare-after : (n : ℕ) {ds st es : List ℕ} {se : StockEdit} → StockIn ds st es se → n ≡ length es / tableEntries → spareClear st n ≡ true → spareClear (afterUse se st) n ≡ true
 unfolding afterUse
@@ -78,12 +77,13 @@ taken-right : (P : Entry → Type 0) → P (entryOf 0) → (u : ℕ → Bool) (g
 unfolding iff
 taken-right P z u g n b i f h = iff-both P (eqb b n) (entryOf 0) (g b i) (λ _. z) (λ e. f (rw e at h))
 
-wiped-right : (P : Entry → Type 0) → P (entryOf 0) → (se : StockEdit) (u : ℕ → Bool) (g : ℕ → ℕ → Entry) (b i : ℕ) → (u b ≡ true → P (g b i)) → newUse se u b ≡ true → P (wipedEntry se g b i)
+wiped-right : (P : Entry → Type 0) → P (entryOf 0) → {ds st es : List ℕ} {se : StockEdit} → StockIn ds st es se → (u : ℕ → Bool) (g : ℕ → ℕ → Entry) (b i : ℕ)
+    → (u b ≡ true → P (g b i)) → newUse se u b ≡ true → P (wipedEntry se g b i)
 unfolding newUse wipedEntry
-wiped-right P z (stock.Keep) u g b i f h = f h
-wiped-right P z (stock.Table n) u g b i f h = taken-right P z u g n b i f h
-wiped-right P z (stock.Record n r) u g b i f h = taken-right P z u g n b i f h
-wiped-right P z (stock.Give n) u g b i f h = f (given-right (eqb b n) h)
+wiped-right P z stock-kept u g b i f h = f h
+wiped-right P z (stock-table {b = n} _ _) u g b i f h = taken-right P z u g n b i f h
+wiped-right P z (stock-record {b = n} _ _ _) u g b i f h = taken-right P z u g n b i f h
+wiped-right P z (stock-given {b = n} _ _) u g b i f h = f (given-right (eqb b n) h)
   where
     given-right : (q : Bool) → iff q false (u b) ≡ true → u b ≡ true
     given-right q = iff-both (λ (x : Bool). x ≡ true → u b ≡ true) q false (u b) (λ _ e. absurd (false≢true e)) (λ _ e. e)
@@ -102,7 +102,7 @@ lent-after base t e l w records = record {
     frame = λ f h. rw (a .frames f) (frame-right (w .frames) (view t .frame) f (l .ranged .frame f h));
     entry = λ b i h u k. rw (a .entries b i)
         (entry-right (w .entries) (wipedEntry (e .stock) (view t .entry)) b i
-        (wiped-right (λ (x : Entry). entryGood (length (t .frames)) x ≡ true) (free-good (length (t .frames))) (e .stock) (view t .used) (view t .entry) b i
+        (wiped-right (λ (x : Entry). entryGood (length (t .frames)) x ≡ true) (free-good (length (t .frames))) (w .stocks) (view t .used) (view t .entry) b i
         (λ v. l .ranged .entry b i h v k) (rw (a .uses b) at u)));
     record′ = records;
   });

@@ -4,6 +4,7 @@ pub mod Kept
 pub mod Frames
 pub mod Fresh
 pub mod Facts
+pub mod Says
 pub mod Records
 pub mod Ranges
 pub mod Edits

@@ -1,22 +1,23 @@
 -- Answer 13's range check, read number by number: where every number in use is in its range, it passes.
 use mathlib.Core.Path.{_≡_, refl}
 use mathlib.Core.Bool.{Bool, true, false}
-use Prim.Native.Nat.{ℕ, zero, suc, _+_, _-_, _/_, _^_, _<_, _≤_}
+use Prim.Native.Nat.{ℕ, zero, suc, _+_, _-_, _/_, _<_, _≤_}
 use native.Mathlib.Omega.{arith}
 use lib.Dec.{eqb, ltb, leb}
 use lib.ListN.{length}
-use borrow.Author.Tests.{eqb-true, leb-true, ltb-false}
+use borrow.Author.Tests.{eqb-true, leb-true, lt-ltb}
 use Rattle.rules.specs.Rule.{iff, given}
 use Rattle.rules.specs.Upto.{allFrom}
 use Rattle.rules.proofs.Steps.{iff-both, both-left, both-right}
-use Rattle.units.specs.Limits.{between, mostExponent, tableEntries, controlPages, recordWords}
+use Rattle.units.specs.Limits.{between, framesMost, recordsMost, tablesMost, tableEntries, controlPages, recordWords}
 use Rattle.units.specs.Limits as limits
 use Rattle.units.specs.declared.address.Hpa.{Hpa}
-use Rattle.stock.specs.Bits.{inUse, spareClear}
+use Rattle.stock.specs.Bits.{wordBits, inUse, spareClear}
 use Rattle.ledger.specs.Codes.{FREE, PENDING-BLOCKED}
 use Rattle.ledger.specs.Tables.{Tables, domainAt}
-use Rattle.ledger.specs.Sizes.{sizesOf, sizesOk, tablesOf, lengthsOk}
-use Rattle.range.specs.Range.{frameLimits, frameOk, framesOk, entryOk, entriesOk, pageOk, pagesOk, domainOk, recordOk, blockOk, blocksOk, lentOk}
+use Rattle.ledger.specs.Sizes.{sizesOf, sizesOk, tablesOf, bitOf, rootOf, lengthsOk}
+use Rattle.plan.specs.Lookup.{bitIn, rootIn}
+use Rattle.range.specs.Range.{frameLimits, frameOk, framesOk, entryOk, entriesOk, pageOk, pagesOk, domainOk, recordOk, tableOk, allTablesOk, rootedOk, allRecordsOk, lentOk}
 use Rattle.ledger.specs.declared.sizes.Sizes.{Sizes}
 use Rattle.ledger.specs.declared.words.Frame.{Frame}
 use Rattle.ledger.specs.declared.words.Domain.{Domain}
@@ -45,7 +46,8 @@ between-true a n b e = (leb-true _ _ (both-left _ _ e), leb-true _ _ (both-right
 -- ---- the values
 
 abbrev pub frameGood : Sizes → Frame → Bool
-frameGood z f = iff (ltb (f .owner .0) (frameLimits z (f .kind) .owner)) (iff (ltb (f .number) (frameLimits z (f .kind) .number)) (ltb (f .epoch) (frameLimits z (f .kind) .epoch)) false) false
+frameGood z f = iff (ltb (f .owner .0) (frameLimits z (f .kind) .owner)) (iff (ltb (f .number) (frameLimits z (f .kind) .number))
+    (iff (ltb (f .epoch) (frameLimits z (f .kind) .epoch)) (ltb (f .size) (frameLimits z (f .kind) .size)) false) false) false
 
 abbrev pub entryGood : ℕ → Entry → Bool
 entryGood frames e = iff (leb (e .state) PENDING-BLOCKED) (iff (eqb (e .state) FREE) (eqb (e .frame .0) 0) (ltb (e .frame .0) frames)) false
@@ -72,11 +74,11 @@ abbrev pub SizesOk : Hpa → Tables → Type 0
 SizesOk base t = sizesOk base (length (t .frames)) (length (t .domains)) (length (t .stock)) (length (t .entries)) ≡ true
 
 pub record Sized (t : Tables) : Type 0 where
-  pub frames : length (t .frames) ≤ 2 ^ mostExponent
-  pub records : length (t .domains) / recordWords ≤ 16
-  pub tables : tablesOf (length (t .domains)) (length (t .entries)) ≤ 64
+  pub frames : length (t .frames) ≤ framesMost
+  pub records : length (t .domains) / recordWords ≤ recordsMost
+  pub tables : tablesOf (length (t .domains)) (length (t .entries)) ≤ tablesMost
   pub blocks : length (t .entries) / tableEntries ≡ tablesOf (length (t .domains)) (length (t .entries)) + length (t .domains) / recordWords
-  pub bits : length (t .stock) ≡ (length (t .entries) / tableEntries + 63) / 64
+  pub bits : length (t .stock) ≡ (length (t .entries) / tableEntries + (wordBits - 1)) / wordBits
 
 pub sized : (base : Hpa) (t : Tables) → SizesOk base t → Sized t
 unfolding sizesOk sizesOf given limits.framesOk tablesOf lengthsOk
@@ -90,26 +92,36 @@ sized base t e =
     let e4 = both-right _ _ (both-right _ _ (both-right _ _ e3)) in
     record { frames = f .1; records = r .1; tables = q .1; blocks = omega arith; bits = eqb-true _ _ e4 }
 
--- ---- a block
+-- a record's in-use bit and its root's block: today the same number
+pub bit-is : (t : Tables) (r : ℕ) → r < length (t .domains) / recordWords → bitIn t r ≡ tablesOf (length (t .domains)) (length (t .entries)) + r
+unfolding bitOf tablesOf iff
+bit-is t r h = rw (lt-ltb r (length (t .domains) / recordWords) h) refl
+
+pub root-is : (t : Tables) (r : ℕ) → r < length (t .domains) / recordWords → rootIn t r ≡ tablesOf (length (t .domains)) (length (t .entries)) + r
+unfolding rootOf tablesOf iff
+root-is t r h = rw (lt-ltb r (length (t .domains) / recordWords) h) refl
+
+-- ---- a table, a record
 
 so-if : (u r : Bool) → (u ≡ true → r ≡ true) → iff u r true ≡ true
 so-if u r f = iff-both (λ (x : Bool). x ≡ true) u r true f (λ _. refl)
 
-of-past : (b n : ℕ) (r : Bool) → (n ≤ b → r ≡ true) → iff (ltb b n) true r ≡ true
-of-past b n r f = iff-both (λ (x : Bool). x ≡ true) (ltb b n) true r (λ _. refl) (λ e. f (ltb-false b n e))
+-- the entries of a block are in range
+abbrev pub EntriesGood : ℕ → View → ℕ → Type 0
+EntriesGood frames s b = (i : ℕ) → i < tableEntries → entryGood frames (s .entry b i) ≡ true
 
-pub record BlockGood (z : Sizes) (s : View) (b : ℕ) : Type 0 where
-  pub entry : (i : ℕ) → i < tableEntries → entryGood (z .frames) (s .entry b i) ≡ true
-  pub record′ : z .tables ≤ b → RecordGood (z .frames) (s .domain (b - z .tables)) (s .control (b - z .tables))
+module _ (n : ℕ) (t : Tables) where
+  of-table : (b : ℕ) → (inUse (t .stock) b ≡ true → EntriesGood n (view t) b) → tableOk n (t .stock) (t .entries) b ≡ true
+  unfolding tableOk entriesOk entryOk given
+  of-table b f = so-if _ _ (λ u. of-all (entryOk n (t .entries) b) tableEntries (f u))
 
-module _ (z : Sizes) (t : Tables) (b : ℕ) where
-  of-block : (inUse (t .stock) b ≡ true → BlockGood z (view t) b) → blockOk z (t .domains) (t .stock) (t .entries) b ≡ true
-  unfolding given blockOk entriesOk entryOk recordOk pagesOk pageOk
-  of-block f = so-if _ _ (λ u.
-      both-of _ _ (of-all (entryOk (z .frames) (t .entries) b) tableEntries (f u .entry))
-      (of-past b (z .tables) _ (λ h.
-      let r = f u .record′ h in
-      both-of _ _ (r .scalars) (of-all (pageOk (z .frames) (domainAt (t .domains) (b - z .tables) .listed) (t .domains) (b - z .tables)) controlPages (r .pages′)))))
+  of-rooted : (r : ℕ) → (inUse (t .stock) (bitIn t r) ≡ true → RecordGood n (view t .domain r) (view t .control r) × EntriesGood n (view t) (rootIn t r))
+      → rootedOk n (t .domains) (t .stock) (t .entries) r ≡ true
+  unfolding rootedOk recordOk pagesOk pageOk entriesOk entryOk given
+  of-rooted r f = so-if _ _ (λ u.
+      both-of _ _
+      (both-of _ _ (f u .0 .scalars) (of-all (pageOk n (domainAt (t .domains) r .listed) (t .domains) r) controlPages (f u .0 .pages′)))
+      (of-all (entryOk n (t .entries) (rootIn t r)) tableEntries (f u .1)))
 
 -- ---- all of it
 
@@ -123,17 +135,17 @@ module _ (base : Hpa) (t : Tables) where
   unfolding framesOk frameOk given
   of-frames h = of-all (frameOk (sizesIn t) (t .frames)) (length (t .frames)) h
 
-  of-ranged : SizesOk base t → Ranged (sizesIn t) (view t) → blocksOk (sizesIn t) (t .domains) (t .stock) (t .entries) ≡ true
-  unfolding blocksOk
-  of-ranged sz r = of-all (blockOk (sizesIn t) (t .domains) (t .stock) (t .entries)) (length (t .entries) / tableEntries) (λ b h.
-      let k : b < sizesIn t .tables + sizesIn t .records = omega (arith, sized base t sz .blocks) in
-      of-block (sizesIn t) t b (λ u. record {
-        entry = λ i j. r .entry b i k u j;
-        record′ = λ q.
-            let e : sizesIn t .tables + (b - sizesIn t .tables) ≡ b = omega arith in
-            r .record′ (b - sizesIn t .tables) (omega arith) (rw e u);
-      }))
+  of-tables : Ranged (sizesIn t) (view t) → allTablesOk (sizesIn t) (t .stock) (t .entries) ≡ true
+  unfolding allTablesOk
+  of-tables r = of-all (tableOk (length (t .frames)) (t .stock) (t .entries)) (sizesIn t .tables) (λ b h. of-table (length (t .frames)) t b (λ u i j. r .entry b i (omega arith) u j))
+
+  of-records : Ranged (sizesIn t) (view t) → allRecordsOk (sizesIn t) (t .domains) (t .stock) (t .entries) ≡ true
+  unfolding allRecordsOk
+  of-records r = of-all (rootedOk (length (t .frames)) (t .domains) (t .stock) (t .entries)) (sizesIn t .records) (λ k h.
+      of-rooted (length (t .frames)) t k (λ u.
+      let v : view t .used (sizesIn t .tables + k) ≡ true = rw (bit-is t k h) at u in
+      (r .record′ k h v, rw (root-is t k h) (λ i j. r .entry (sizesIn t .tables + k) i (omega arith) v j))))
 
   pub of-lent : Lent base t → lentOk base t ≡ true
   unfolding lentOk given sizesOf
-  of-lent l = both-of _ _ (l .sizes) (both-of _ _ (l .spare) (both-of _ _ (of-frames (l .ranged .frame)) (of-ranged (l .sizes) (l .ranged))))
+  of-lent l = both-of _ _ (l .sizes) (both-of _ _ (l .spare) (both-of _ _ (of-frames (l .ranged .frame)) (both-of _ _ (of-tables (l .ranged)) (of-records (l .ranged)))))

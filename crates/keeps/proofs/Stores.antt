@@ -11,7 +11,7 @@ use borrow.Author.Tests.{eq-eqb, ne-eqb}
 use Rattle.rules.specs.Rule.{iff}
 use Rattle.units.specs.Limits.{tableEntries, controlPages, recordWords}
 use Rattle.units.specs.declared.address.Pfn.{Pfn}
-use Rattle.stock.specs.Bits.{inUse}
+use Rattle.stock.specs.Bits.{wordBits, inUse}
 use Rattle.stock.specs.Wipe.{wipedAt}
 use Rattle.stock.proofs.Uses.{use-length, use-same, use-other}
 use Rattle.stock.proofs.Wipes.{wiped-length, wiped-in, wiped-other}
@@ -106,26 +106,26 @@ newEntry (entry.Set n k v) g b i = cell tableEntries g n k v b i
 unfoldable pub newUse : StockEdit → (ℕ → Bool) → ℕ → Bool
 newUse (stock.Keep) g b = g b
 newUse (stock.Table n) g b = stored g n true b
-newUse (stock.Record n r) g b = stored g n true b
+newUse (stock.Record bit n r) g b = stored g bit true b
 newUse (stock.Give n) g b = stored g n false b
 
 -- what a taken record or block reads: zeros
 unfoldable pub wipedDomain : StockEdit → (ℕ → Domain) → ℕ → Domain
 wipedDomain (stock.Keep) g r = g r
 wipedDomain (stock.Table n) g r = g r
-wipedDomain (stock.Record n k) g r = stored g k (domainOf 0) r
+wipedDomain (stock.Record bit n k) g r = stored g k (domainOf 0) r
 wipedDomain (stock.Give n) g r = g r
 
 unfoldable pub wipedPage : StockEdit → (ℕ → ℕ → ℕ) → ℕ → ℕ → ℕ
 wipedPage (stock.Keep) g r i = g r i
 wipedPage (stock.Table n) g r i = g r i
-wipedPage (stock.Record n k) g r i = iff (eqb r k) 0 (g r i)
+wipedPage (stock.Record bit n k) g r i = iff (eqb r k) 0 (g r i)
 wipedPage (stock.Give n) g r i = g r i
 
 unfoldable pub wipedEntry : StockEdit → (ℕ → ℕ → Entry) → ℕ → ℕ → Entry
 wipedEntry (stock.Keep) g b i = g b i
 wipedEntry (stock.Table n) g b i = iff (eqb b n) (entryOf 0) (g b i)
-wipedEntry (stock.Record n r) g b i = iff (eqb b n) (entryOf 0) (g b i)
+wipedEntry (stock.Record bit n r) g b i = iff (eqb b n) (entryOf 0) (g b i)
 wipedEntry (stock.Give n) g b i = g b i
 
 -- the view after an edit
@@ -157,9 +157,9 @@ pub data EntryIn (frames : ℕ) (es : List ℕ) : EntryEdit → Type 0 where
 -- a block below those that the stock has bits for
 pub data StockIn (ds st es : List ℕ) : StockEdit → Type 0 where
   stock-kept : StockIn ds st es (stock.Keep)
-  stock-table : {b : ℕ} → b / 64 < length st → b < length es / tableEntries → StockIn ds st es (stock.Table b)
-  stock-record : {b r : ℕ} → b / 64 < length st → b < length es / tableEntries → r < length ds / recordWords → StockIn ds st es (stock.Record b r)
-  stock-given : {b : ℕ} → b / 64 < length st → b < length es / tableEntries → StockIn ds st es (stock.Give b)
+  stock-table : {b : ℕ} → b / wordBits < length st → b < length es / tableEntries → StockIn ds st es (stock.Table b)
+  stock-record : {b r : ℕ} → b / wordBits < length st → b < length es / tableEntries → r < length ds / recordWords → StockIn ds st es (stock.Record b b r)
+  stock-given : {b : ℕ} → b / wordBits < length st → b < length es / tableEntries → StockIn ds st es (stock.Give b)
 
 pub record Within (t : Tables) (e : Edit) : Type 0 where
   pub frames : FrameIn (sizesIn t) (t .frames) (e .frame)
@@ -194,21 +194,21 @@ uses-length : (se : StockEdit) (st : List ℕ) → length (afterUse se st) ≡ l
 unfolding afterUse
 uses-length (stock.Keep) st = refl
 uses-length (stock.Table b) st = use-length st b true
-uses-length (stock.Record b r) st = use-length st b true
+uses-length (stock.Record bit b r) st = use-length st bit true
 uses-length (stock.Give b) st = use-length st b false
 
 record-length : (se : StockEdit) (ds : List ℕ) → length (afterRecord se ds) ≡ length ds
 unfolding afterRecord
 record-length (stock.Keep) ds = refl
 record-length (stock.Table b) ds = refl
-record-length (stock.Record b r) ds = wiped-length recordWords ds r
+record-length (stock.Record bit b r) ds = wiped-length recordWords ds r
 record-length (stock.Give b) ds = refl
 
 block-length : (se : StockEdit) (es : List ℕ) → length (afterBlock se es) ≡ length es
 unfolding afterBlock
 block-length (stock.Keep) es = refl
 block-length (stock.Table b) es = wiped-length tableEntries es b
-block-length (stock.Record b r) es = wiped-length tableEntries es b
+block-length (stock.Record bit b r) es = wiped-length tableEntries es b
 block-length (stock.Give b) es = refl
 
 pub record SameLengths (t t′ : Tables) : Type 0 where

@@ -16,7 +16,8 @@ pub frame-whole : (w : ℕ) → w < 2 ^ 64 → frameWord (frameOf w) ≡ w
 frame-whole w h =
     field 8 w (w / 8) _ refl
     (field 16384 (w / 8) (w / 131072) _ (omega arith)
-    (field 256 (w / 131072) (w / 33554432) _ (omega arith) (omega arith)))
+    (field 256 (w / 131072) (w / 33554432) _ (omega arith)
+    (field 4294967296 (w / 33554432) (w / 144115188075855872) _ (omega arith) (omega arith))))
 
 pub domain-whole : (w : ℕ) → w < 2 ^ 64 → domainWord (domainOf w) ≡ w
 domain-whole w h =
@@ -24,28 +25,29 @@ domain-whole w h =
     (field 8 (w / 128) (w / 1024) _ (omega arith)
     (field 4 (w / 1024) (w / 4096) _ (omega arith)
     (field 8 (w / 4096) (w / 32768) _ (omega arith)
-    (field 32768 (w / 32768) (w / 1073741824) _ (omega arith) (omega arith)))))
+    (field 32768 (w / 32768) (w / 1073741824) _ (omega arith)
+    (field 4294967296 (w / 1073741824) (w / 4611686018427387904) _ (omega arith) (omega arith))))))
 
 pub entry-whole : (w : ℕ) → w < 2 ^ 32 → entryWord (entryOf w) ≡ w
 entry-whole w h = field 8 w (w / 8) _ refl (omega arith)
 
-abbrev frame : ℕ → ℕ → ℕ → ℕ → Frame
-frame k o n e = record { kind = k; owner = record { 0 = o }; number = n; epoch = e }
+abbrev frame : ℕ → ℕ → ℕ → ℕ → ℕ → Frame
+frame k o n e s = record { kind = k; owner = record { 0 = o }; number = n; epoch = e; size = s }
 
-frame-eq : {k k′ o o′ n n′ e e′ : ℕ} → k ≡ k′ → o ≡ o′ → n ≡ n′ → e ≡ e′ → frame k o n e ≡ frame k′ o′ n′ e′
-frame-eq a b c d = cc
+frame-eq : {k k′ o o′ n n′ e e′ s s′ : ℕ} → k ≡ k′ → o ≡ o′ → n ≡ n′ → e ≡ e′ → s ≡ s′ → frame k o n e s ≡ frame k′ o′ n′ e′ s′
+frame-eq a b c d e = cc
 
 pub frame-back : (f : Frame) → FrameFits f → frameOf (frameWord f) ≡ f
-frame-back f h = frame-eq (omega arith) (omega arith) (omega arith) (omega arith)
+frame-back f h = frame-eq (omega arith) (omega arith) (omega arith) (omega arith) (omega arith)
 
-abbrev domain : ℕ → ℕ → ℕ → ℕ → ℕ → ℕ → Domain
-domain k l o n c e = record { key = k; life = l; op = o; listed = n; children = c; epoch = e }
+abbrev domain : ℕ → ℕ → ℕ → ℕ → ℕ → ℕ → ℕ → Domain
+domain k l o n c e w = record { key = k; life = l; op = o; listed = n; children = c; epoch = e; width = w }
 
-domain-eq : {k k′ l l′ o o′ n n′ c c′ e e′ : ℕ} → k ≡ k′ → l ≡ l′ → o ≡ o′ → n ≡ n′ → c ≡ c′ → e ≡ e′ → domain k l o n c e ≡ domain k′ l′ o′ n′ c′ e′
-domain-eq p q r s t u = cc
+domain-eq : {k k′ l l′ o o′ n n′ c c′ e e′ w w′ : ℕ} → k ≡ k′ → l ≡ l′ → o ≡ o′ → n ≡ n′ → c ≡ c′ → e ≡ e′ → w ≡ w′ → domain k l o n c e w ≡ domain k′ l′ o′ n′ c′ e′ w′
+domain-eq p q r s t u v = cc
 
 pub domain-back : (d : Domain) → DomainFits d → domainOf (domainWord d) ≡ d
-domain-back d h = domain-eq (omega arith) (omega arith) (omega arith) (omega arith) (omega arith) (omega arith)
+domain-back d h = domain-eq (omega arith) (omega arith) (omega arith) (omega arith) (omega arith) (omega arith) (omega arith)
 
 abbrev entry : ℕ → ℕ → Entry
 entry s f = record { state = s; frame = record { 0 = f } }

@@ -4,6 +4,7 @@ use mathlib.Core.Bool.{Bool, false}
 use lib.Dec.{eqb, ltb}
 use Rattle.rules.specs.Rule.{iff, need, given}
 use Rattle.units.specs.Limits as limits
+use Rattle.stock.specs.Bits.{wordBits}
 use Rattle.units.specs.declared.address.Hpa.{Hpa}
 use Rattle.ledger.specs.declared.sizes.Sizes.{Sizes}
 
@@ -11,11 +12,17 @@ use Rattle.ledger.specs.declared.sizes.Sizes.{Sizes}
 unfoldable pub tablesOf : ℕ → ℕ → ℕ
 tablesOf domains entries = entries / limits.tableEntries - domains / limits.recordWords
 
+-- "Each says whether it is in use": a bit for each block. The bits of the tables, then one for each record; a record beyond the stock has
+-- none: the bit after the last
+abbrev pub bitsOf : ℕ → ℕ → ℕ
+bitsOf domains entries = entries / limits.tableEntries
+
+unfoldable pub bitOf : ℕ → ℕ → ℕ → ℕ
+bitOf domains entries r = iff (ltb r (domains / limits.recordWords)) (tablesOf domains entries + r) (bitsOf domains entries)
+
 -- the block of record r's root; a record beyond the stock has none: the block after the last
 unfoldable pub rootOf : ℕ → ℕ → ℕ → ℕ
-rootOf domains entries r =
-    iff (ltb r (domains / limits.recordWords)) (entries / limits.tableEntries - domains / limits.recordWords + r)
-    (entries / limits.tableEntries)
+rootOf domains entries r = iff (ltb r (domains / limits.recordWords)) (tablesOf domains entries + r) (entries / limits.tableEntries)
 
 unfoldable pub sizesOf : ℕ → ℕ → ℕ → Sizes
 sizesOf frames domains entries = record {
@@ -24,12 +31,12 @@ sizesOf frames domains entries = record {
   tables = tablesOf domains entries;
 }
 
--- whole records, whole blocks, and a bit for each block, 64 to a word
+-- whole records, whole blocks, and as many words as the in-use bits take
 unfoldable pub lengthsOk : ℕ → ℕ → ℕ → Bool
 lengthsOk domains stock entries =
     need (eqb (domains % limits.recordWords) 0) false (
     need (eqb (entries % limits.tableEntries) 0) false
-    (eqb stock ((entries / limits.tableEntries + 63) / 64)))
+    (eqb stock ((bitsOf domains entries + (wordBits - 1)) / wordBits)))
 
 -- answer 13: "lent sizes or base outside the limits"
 unfoldable pub sizesOk : Hpa → ℕ → ℕ → ℕ → ℕ → Bool

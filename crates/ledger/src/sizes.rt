@@ -1,7 +1,7 @@
 // The sizes of what is lent. They come from the lengths of the lent slices, so that they can't disagree with them.
 ghost use mathlib.Core.Path.{_≡_};
 ghost use Prim.Native.Nat.{_-_};
-ghost use Rattle.ledger.specs.Sizes.{tablesOf, rootOf, sizesOf, lengthsOk, sizesOk};
+ghost use Rattle.ledger.specs.Sizes.{tablesOf, bitsOf, bitOf, rootOf, sizesOf, lengthsOk, sizesOk};
 use stock::bits::WORD_BITS;
 use units::address::Hpa;
 use units::limits;
@@ -31,12 +31,29 @@ pub fn tables_of(domains: usize, entries: usize) -> usize
     minus(entries / TABLE_ENTRIES, domains / RECORD_WORDS)
 }
 
+// How many in-use bits there are: one for each block.
+pub fn bits_of(domains: usize, entries: usize) -> usize
+    ensures { λ r. ⌜ r ≡ bitsOf domains entries ⌝ }
+{
+    entries / TABLE_ENTRIES
+}
+
+// The in-use bit of a record. A record beyond the stock has none: the bit after the last.
+pub fn bit_of(domains: usize, entries: usize, rec: usize) -> usize
+    ensures { λ r. ⌜ r ≡ bitOf domains entries rec ⌝ }
+{
+    if rec < domains / RECORD_WORDS {
+        return tables_of(domains, entries) + rec;
+    }
+    bits_of(domains, entries)
+}
+
 // The block of a record's root. A record beyond the stock has none: the block after the last.
 pub fn root_of(domains: usize, entries: usize, rec: usize) -> usize
     ensures { λ r. ⌜ r ≡ rootOf domains entries rec ⌝ }
 {
     if rec < domains / RECORD_WORDS {
-        return minus(entries / TABLE_ENTRIES, domains / RECORD_WORDS) + rec;
+        return tables_of(domains, entries) + rec;
     }
     entries / TABLE_ENTRIES
 }
@@ -72,7 +89,7 @@ pub fn sizes_ok(base: Hpa, frames: usize, domains: usize, stock: usize, entries:
     lengths_ok(domains, stock, entries)
 }
 
-// Whole records, whole blocks, and as many words of in-use bits as the blocks take.
+// Whole records, whole blocks, and as many words as the in-use bits take.
 fn lengths_ok(domains: usize, stock: usize, entries: usize) -> bool
     ensures { λ r. ⌜ r ≡ lengthsOk domains stock entries ⌝ }
 {
@@ -82,5 +99,5 @@ fn lengths_ok(domains: usize, stock: usize, entries: usize) -> bool
     if entries % TABLE_ENTRIES != 0 {
         return false;
     }
-    stock == (entries / TABLE_ENTRIES + (WORD_BITS - 1)) / WORD_BITS
+    stock == (bits_of(domains, entries) + (WORD_BITS - 1)) / WORD_BITS
 }

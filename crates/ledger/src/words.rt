@@ -5,11 +5,15 @@ ghost use Prim.Native.Nat.{_<_};
 ghost use Rattle.ledger.specs.Words.{frameOf, frameWord, domainOf, domainWord, entryOf, entryWord};
 use units::address::Pfn;
 
+// An epoch has 32 bits.
+const EPOCHS: u64 = 4294967296;
+
 pub struct Frame {
     pub kind: u64,
     pub owner: Pfn,
     pub number: u64,
     pub epoch: u64,
+    pub size: u64,
 }
 
 pub struct Domain {
@@ -19,6 +23,7 @@ pub struct Domain {
     pub listed: u64,
     pub children: u64,
     pub epoch: u64,
+    pub width: u64,
 }
 
 pub struct Entry {
@@ -33,7 +38,8 @@ pub fn unpack_frame(word: u64) -> Frame
         kind: word % 8,
         owner: Pfn((word / 8 % 16384) as usize),
         number: word / 131072 % 256,
-        epoch: word / 33554432,
+        epoch: word / 33554432 % EPOCHS,
+        size: word / 144115188075855872,
     }
 }
 
@@ -41,8 +47,8 @@ pub fn pack_frame(f: Frame) -> u64
     ensures { λ r. ⌜ r ≡ frameWord f ⌝ }
 {
     let owner = f.owner;
-    f.kind % 8
-        + 8 * ((owner.0 as u64) % 16384 + 16384 * (f.number % 256 + 256 * (f.epoch % 549755813888)))
+    let dated = f.epoch % EPOCHS + EPOCHS * (f.size % 128);
+    f.kind % 8 + 8 * ((owner.0 as u64) % 16384 + 16384 * (f.number % 256 + 256 * dated))
 }
 
 pub fn unpack_domain(word: u64) -> Domain
@@ -54,14 +60,16 @@ pub fn unpack_domain(word: u64) -> Domain
         op: word / 1024 % 4,
         listed: word / 4096 % 8,
         children: word / 32768 % 32768,
-        epoch: word / 1073741824,
+        epoch: word / 1073741824 % EPOCHS,
+        width: word / 4611686018427387904,
     }
 }
 
 pub fn pack_domain(d: Domain) -> u64
     ensures { λ r. ⌜ r ≡ domainWord d ⌝ }
 {
-    let counted = d.listed % 8 + 8 * (d.children % 32768 + 32768 * (d.epoch % 17179869184));
+    let dated = d.epoch % EPOCHS + EPOCHS * (d.width % 4);
+    let counted = d.listed % 8 + 8 * (d.children % 32768 + 32768 * dated);
     d.key % 128 + 128 * (d.life % 8 + 8 * (d.op % 4 + 4 * counted))
 }
 

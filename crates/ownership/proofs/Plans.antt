@@ -2,18 +2,18 @@
 use mathlib.Core.Path.{_≡_, refl, sym, ap, _∙_, subst}
 use mathlib.Core.Bool.{true, false, true≢false}
 use mathlib.Core.List.{List}
-use Prim.Native.Nat.{ℕ, _+_, _-_, _<_, _≤_}
+use Prim.Native.Nat.{ℕ, _+_, _-_, _<_, _≤_, _/_}
 use native.Mathlib.Nat.{le-trans}
 use native.Mathlib.Omega.{arith}
 use native.Mathlib.Decide.{ℕ-discrete}
 use lib.Dec.{eqb, ltb}
 use lib.ListN.{length}
-use borrow.Author.Tests.{eqb-true, eqb-false, ltb-true, leb-true, lt-ltb, ne-eqb, eq-eqb}
+use borrow.Author.Tests.{eqb-true, eqb-false, ltb-true, lt-ltb, ne-eqb, eq-eqb}
 use Rattle.rules.specs.Rule.{iff, given}
 use Rattle.rules.proofs.Steps.{iff-both}
 use Rattle.rules.proofs.Uptos.{all-at, at-from}
 use Rattle.levels.specs.Level.{topLevel}
-use Rattle.units.specs.Limits.{between, tableEntries, controlPages}
+use Rattle.units.specs.Limits.{tableEntries, controlPages}
 use Rattle.units.specs.declared.address.Hpa.{Hpa}
 use Rattle.units.specs.declared.address.Gpa.{Gpa}
 use Rattle.units.specs.declared.address.Pfn.{Pfn}
@@ -26,13 +26,14 @@ use Rattle.ledger.specs.declared.words.Entry.{Entry}
 use Rattle.walk.specs.Walk.{ownFrame, entryType}
 use Rattle.calls.specs.Answers.{numberOf}
 use Rattle.calls.specs.declared.Answer.{Answer}
+use Rattle.calls.specs.declared.Answer.the-variants.{No}
 use Rattle.calls.specs.declared.Call.{Call}
 use Rattle.calls.specs.declared.Call.the-variants as call
 use Rattle.plan.specs.Edits.{edit, entry, freeEntry, newEpt, newReg, withFrameEpoch, freed}
-use Rattle.plan.specs.Lookup.{onLookup, domainFor, builtFor, onPlace}
+use Rattle.plan.specs.Lookup.{onPlace, onLookup, onParties, frameOperand, partiesFor, spotFor}
 use Rattle.plan.specs.Entries.{blockedState, unblockedState, tableEmpty, freeAt}
 use Rattle.domains.specs.Domains as plans
-use Rattle.plan.specs.Changes.{refuse, gain, lose, onFrame, onSpot}
+use Rattle.plan.specs.Changes.{refuse, gain, lose, onFrame, onDomain, onBuilt, onLive}
 use Rattle.adds.specs.Adds as adds
 use Rattle.trees.specs.Trees as trees
 use Rattle.pages.specs.Pages as pages
@@ -54,11 +55,11 @@ use Rattle.ownership.specs.Reached.{extent, Lists, noted, roleOf, subjec
 use Rattle.ownership.specs.Always.{Numbered, a-record, a-table}
 use Rattle.ownership.proofs.Cases.{fits-table, fits-page}
 use Rattle.keeps.proofs.Stores.{After}
-use Rattle.keeps.proofs.Ranged.{sized}
+use Rattle.keeps.proofs.Ranged.{between-true, sizesIn, sized, root-is}
 use Rattle.keeps.proofs.Lookups.{record-low}
-use Rattle.keeps.proofs.Facts.{on-lowest, on-operand, frame-operand, spot-operands}
+use Rattle.keeps.proofs.Says.{ReachSays, Offered, Owned, is-nda, free-says, tracked-says, on-lowest, on-operand, on-parties, on-reach, on-walk, frame-says, parties-say, built-says, spot-built, no-frame}
 use Rattle.ownership.proofs.Facts.{Mild, mild-no, mild-stop, reads-entry, reads-page, table-shape}
-use Rattle.ownership.proofs.State.{State, domain-is, on-lookup, on-reach, on-walk, looked, IsSpot, IsEntry, domain-for, built-for, entry-own, own-frame, entry-for, walk-good, count-room, count-some}
+use Rattle.ownership.proofs.State.{State, domain-is, looked, IsDomain, IsSpot, IsEntry, domain-for, entry-own, own-frame, entry-for, walk-good, count-room, count-some}
 use Rattle.ownership.proofs.Stepped.{frame-stays, frame-becomes, StockAt, stock-stays, block-given}
 use Rattle.ownership.proofs.Turns.{Does, Turn, says, reads, does, become-turn, free-turn, entry-turn, no-table, a-new, put-turn, Still, still-keep, still-give, take-turn, reclaim-turn, enlist-turn, new-turn, retire-turn}
 
@@ -110,66 +111,90 @@ module _ (base : Hpa) (t : Tables) (l : Lists) (st : State base t l) where
   refused : {l′ : Lists} {d : ℕ} (n k : ℕ) → 0 < n → n < 13 → Turn base t l l′ d (refuse n k)
   refused n k h m = says (mild-no n k h m)
 
-  -- ---- on a frame, on a spot; D's lookups
+  -- ---- on a frame; D's lookups: a refusal on the way is mild, and D is what its TDR's frame n says
+
+  mild : (n k : ℕ) → 0 < n → n < 13 → Mild (No n k)
+  mild n k h m = mild-no n k h m
+
   on-frame : (c : Call) (h : Hpa) (k : ℕ) (next : Pfn → Plan) → ((n : Pfn) → placeIn base t h ≡ place.At n → n .0 < length (t .frames) → Good base t l c (next n)) → Good base t l c (onFrame base t h k next)
-  on-frame c h k next f = on-operand base t h (Good base t l c) (frame-operand base t h k) (refuse 1) next (λ j. answers (mild-no 1 j (omega arith) (omega arith))) f
+  on-frame c h k next f = on-operand (Good base t l c) (frame-says base t h k) (refuse 1) next (λ j. answers (mild-no 1 j (omega arith) (omega arith))) (λ n w. f n (w .place) (w .inside))
 
-  on-spot : (c : Call) (h : Hpa) (gpa : Gpa) (level least : ℕ) (next : Pfn → Plan) → ((n : Pfn) → placeIn base t h ≡ place.At n → n .0 < length (t .frames) → Good base t l c (next n)) → Good base t l c (onSpot base t h gpa level least next)
-  on-spot c h gpa level least next f = on-operand base t h (Good base t l c) (spot-operands base t h gpa level least) (refuse 1) next (λ j. answers (mild-no 1 j (omega arith) (omega arith))) f
+  module _ (c : Call) (d : Hpa) where
+    -- what is to be shown of D, of D with its key, and of both with a frame that is offered
+    abbrev OfDomain : (Looked → Plan) → Type 0
+    OfDomain next = (n : Pfn) → placeIn base t d ≡ place.At n → kind (view t) (n .0) ≡ TDR → Good base t l c (next (looked t (n .0)))
 
-  on-domain : (l′ : Lists) (n : Pfn) (next : Looked → Plan) → (kind (view t) (n .0) ≡ TDR → Turn base t l l′ (n .0) (next (looked t (n .0)))) → Turn base t l l′ (n .0) (onLookup (domainFor t n) Say next)
-  on-domain l′ n next f = on-lookup (Turn base t l l′ (n .0)) (domain-for base t l st n) Say next (λ a m. says m) (λ x d. rw (d .is) (f (d .kind)))
+    abbrev OfBuilt : ℕ → (Looked → Plan) → Type 0
+    OfBuilt least next = (n : Pfn) → placeIn base t d ≡ place.At n → Keyed (view t) (n .0) → least ≤ op (view t) (number (view t) (n .0)) → Good base t l c (next (looked t (n .0)))
 
-  on-built : (n : Pfn) (least most : ℕ) (next : Looked → Plan) → (Keyed (view t) (n .0) → least ≤ op (view t) (number (view t) (n .0)) → Turn base t l l (n .0) (next (looked t (n .0))))
-      → Turn base t l l (n .0) (onLookup (builtFor t n least most) Say next)
-  on-built n least most next f = on-lookup (Turn base t l l (n .0)) (built-for base t l st n least most) Say next (λ a m. says m) (λ x d. rw (d .domain .is) (f (d .keyed) (d .op)))
+    abbrev D : Pfn → Looked → Type 0
+    D n x = IsDomain t (n .0) x
+
+    held : (n : Pfn) (x : Looked) → IsDomain t (n .0) x → x .dom .life ≡ CONFIGURED → Keyed (view t) (n .0)
+    held n x i q = record { tdr = i .kind; held = λ e. omega (arith, sym (ap (λ (y : Looked). y .dom .life) (i .is)) ∙ q) }
+
+    from : (n : Pfn) (x : Looked) (least : ℕ) → IsDomain t (n .0) x → least ≤ x .dom .op → least ≤ op (view t) (number (view t) (n .0))
+    from n x least i h = omega (arith, ap (λ (y : Looked). y .dom .op) (i .is))
+
+    on-domain : (next : Looked → Plan) → OfDomain next → Good base t l c (onDomain base t d next)
+    on-domain next f = on-parties (Good base t l c) (parties-say base t Mild mild d D (domain-for base t l st) _ no-frame) Say _ (λ a m. answers m)
+        (λ x m p. rw (p .found .is) (f (p .tdr) (p .place .place) (p .found .kind)))
+
+    on-offer : (h : Hpa) (k : ℕ) (next : Looked → Pfn → Plan) → ((m : Pfn) → m .0 < length (t .frames) → OfDomain (λ x. next x m))
+        → Good base t l c (onParties (partiesFor base t d (frameOperand base (length (t .frames)) h k)) Say next)
+    on-offer h k next f = on-parties (Good base t l c) (parties-say base t Mild mild d D (domain-for base t l st) _ (frame-says base t h k)) Say next (λ a m. answers m)
+        (λ x m p. rw (p .found .is) (f m (p .offered .inside) (p .tdr) (p .place .place) (p .found .kind)))
+
+    on-built : (least most : ℕ) (next : Looked → Plan) → OfBuilt least next → Good base t l c (onBuilt base t d least most next)
+    on-built least most next f = on-parties (Good base t l c) (built-says base t Mild mild d D (domain-for base t l st) _ no-frame least most) Say _ (λ a m. answers m)
+        (λ x m p. let i = p .party .found in let n = p .party .tdr in
+        let k = held n x i (p .life) in let o = from n x least i (p .op .0) in rw (i .is) (f n (p .party .place .place) k o))
+
+    on-live : (gpa : Gpa) (level lowest : ℕ) (next : Looked → Plan) → OfBuilt INITIALIZED next → Good base t l c (onLive base t d gpa level lowest next)
+    on-live gpa level lowest next f = on-parties (Good base t l c) (spot-built base t Mild mild d D (domain-for base t l st) gpa level lowest _ no-frame INITIALIZED RUNNABLE) Say _ (λ a m. answers m)
+        (λ x m p. let i = p .party .found in let n = p .party .tdr in
+        let k = held n x i (p .life) in let o = from n x INITIALIZED i (p .op .0) in rw (i .is) (f n (p .party .place .place) k o))
+
+    on-spot : (gpa : Gpa) (level lowest : ℕ) (h : Hpa) (j least most : ℕ) (next : Looked → Pfn → Plan) → ((m : Pfn) → m .0 < length (t .frames) → OfBuilt least (λ x. next x m))
+        → Good base t l c (onParties (spotFor base t d gpa level lowest (frameOperand base (length (t .frames)) h j) least most) Say next)
+    on-spot gpa level lowest h j least most next f =
+        on-parties (Good base t l c) (spot-built base t Mild mild d D (domain-for base t l st) gpa level lowest _ (frame-says base t h j) least most) Say next (λ a m. answers m)
+        (λ x m p. let i = p .party .found in let n = p .party .tdr in
+        let k = held n x i (p .life) in let o = from n x least i (p .op .0) in rw (i .is) (f m (p .party .offered .inside) n (p .party .place .place) k o))
 
   -- ---- the calls on a domain's record
 
-  pub keyconfig-good : (d : Hpa) → Good base t l (call.KeyConfig d) (plans.keyconfigPlan base t d)
-  unfolding plans.keyconfigPlan subject left roleOf given
-  keyconfig-good d = on-frame (call.KeyConfig d) d 0 _ (λ n q h. good n q refl (on-domain l n _ (λ k.
+  -- keyconfig and flushdone: the lifecycle moves on, short of teardown
+  life-good : (c : Call) (d : Hpa) (least most now : ℕ) → most < TEARDOWN → now < TEARDOWN → subject base t (roleOf c) ≡ placeIn base t d → left base t (roleOf c) l ≡ l
+      → Good base t l c (plans.lifePlan base t d least most now)
+  unfolding plans.lifePlan given
+  life-good c d least most now lo hi su le = on-domain c d _ (λ n q k. good n (su ∙ q) le (
       iff-both (Turn base t l l (n .0)) _ _ _
       (λ e.
-      let a : life (view t) (number (view t) (n .0)) ≡ ASSIGNED = eqb-true _ _ e in
-      become-turn base t l st (n .0) (record { tdr = k; held = λ z. omega arith }) _ refl refl refl (λ u. u) (λ z. omega arith))
-      (λ _. refused 3 0 (omega arith) (omega arith)))))
+      let a = between-true least (life (view t) (number (view t) (n .0))) most e in
+      become-turn base t l st (n .0) (record { tdr = k; held = λ z. omega (arith, a) }) _ refl refl refl (λ u. u) (λ z. omega arith))
+      (λ _. refused 3 0 (omega arith) (omega arith))))
 
-  pub init-good : (d : Hpa) → Good base t l (call.Init d) (plans.initPlan base t d)
-  unfolding plans.initPlan subject left roleOf given
-  init-good d = on-frame (call.Init d) d 0 _ (λ n q h. good n q refl (on-built n UNINITIALIZED UNINITIALIZED _ (λ k _.
-      become-turn base t l st (n .0) k _ refl refl refl (λ u. absurd (omega arith)) (k .held))))
-
-  pub finalize-good : (d : Hpa) → Good base t l (call.Finalize d) (plans.finalizePlan base t d)
-  unfolding plans.finalizePlan subject left roleOf given
-  finalize-good d = on-frame (call.Finalize d) d 0 _ (λ n q h. good n q refl (on-built n INITIALIZED INITIALIZED _ (λ k _.
-      become-turn base t l st (n .0) k _ refl refl refl (λ u. absurd (omega arith)) (k .held))))
-
-  pub track-good : (d : Hpa) → Good base t l (call.Track d) (plans.trackPlan base t d)
-  unfolding plans.trackPlan subject left roleOf given between
-  track-good d = on-frame (call.Track d) d 0 _ (λ n q h. good n q refl (on-built n INITIALIZED RUNNABLE _ (λ k live.
-      iff-both (Turn base t l l (n .0)) _ _ _
-      (λ e.
-      become-turn base t l st (n .0) k _ refl refl refl (λ u. u) (k .held))
-      (λ _. refused 12 0 (omega arith) (omega arith)))))
-
-  pub flushdone-good : (d : Hpa) → Good base t l (call.FlushDone d) (plans.flushdonePlan base t d)
-  unfolding plans.flushdonePlan subject left roleOf given
-  flushdone-good d = on-frame (call.FlushDone d) d 0 _ (λ n q h. good n q refl (on-domain l n _ (λ k.
-      iff-both (Turn base t l l (n .0)) _ _ _
-      (λ e.
-      let a : life (view t) (number (view t) (n .0)) ≤ CONFIGURED = leb-true _ _ e in
-      become-turn base t l st (n .0) (record { tdr = k; held = λ z. omega arith }) _ refl refl refl (λ u. u) (λ z. omega arith))
-      (λ _. refused 3 0 (omega arith) (omega arith)))))
-
-  pub keyfree-good : (d : Hpa) → Good base t l (call.KeyFree d) (plans.keyfreePlan base t d)
-  unfolding plans.keyfreePlan subject left roleOf given onPlace
-  keyfree-good d = on-frame (call.KeyFree d) d 0 _ (λ n q h. good n q (rw q refl) (on-domain (noted l (n .0) (finds (extent t) (view t) (n .0))) n _ (λ k.
+  keyfree-good : (d : Hpa) → Good base t l (call.KeyFree d) (plans.keyfreePlan base t d)
+  unfolding plans.lifePlan subject left roleOf given onPlace
+  keyfree-good d = on-domain (call.KeyFree d) d _ (λ n q k. good n q (rw q refl) (
       iff-both (Turn base t l (noted l (n .0) (finds (extent t) (view t) (n .0))) (n .0)) _ _ _
       (λ e.
-      let a : life (view t) (number (view t) (n .0)) ≡ BLOCKED-LIFE = eqb-true _ _ e in
-      free-turn base t l st (n .0) (record { tdr = k; held = λ z. omega arith }) _ refl refl refl (λ u. u) refl)
-      (λ _. refused 3 0 (omega arith) (omega arith)))))
+      let a = between-true BLOCKED-LIFE (life (view t) (number (view t) (n .0))) BLOCKED-LIFE e in
+      free-turn base t l st (n .0) (record { tdr = k; held = λ z. omega (arith, a) }) _ refl refl refl (λ u. u) refl)
+      (λ _. refused 3 0 (omega arith) (omega arith))))
+
+  -- init and finalize
+  op-good : (c : Call) (d : Hpa) (old now : ℕ) → (now ≡ UNINITIALIZED → ⊥) → subject base t (roleOf c) ≡ placeIn base t d → left base t (roleOf c) l ≡ l → Good base t l c (plans.opPlan base t d old now)
+  unfolding plans.opPlan given
+  op-good c d old now some su le = on-built c d old old _ (λ n q k _. good n (su ∙ q) le (become-turn base t l st (n .0) k _ refl refl refl (λ u. absurd (some u)) (k .held)))
+
+  track-good : (d : Hpa) → Good base t l (call.Track d) (plans.trackPlan base t d)
+  unfolding plans.trackPlan subject left roleOf given
+  track-good d = on-built (call.Track d) d INITIALIZED RUNNABLE _ (λ n q k _. good n q refl (
+      iff-both (Turn base t l l (n .0)) _ _ _
+      (λ _. become-turn base t l st (n .0) k _ refl refl refl (λ u. u) (k .held))
+      (λ _. refused 12 0 (omega arith) (omega arith))))
 
   -- the count's 14 never comes where a frame is free
   gain-room : (d F : ℕ) → kind (view t) d ≡ TDR → F < length (t .frames) → kind (view t) F ≡ NDA → ltb (children (view t) (number (view t) d)) (length (t .frames)) ≡ true
@@ -177,7 +202,7 @@ module _ (base : Hpa) (t : Tables) (l : Lists) (st : State base t l) where
 
   pub addcx-good : (d f : Hpa) → Good base t l (call.AddCx d f) (plans.addcxPlan base t d f)
   unfolding plans.addcxPlan plans.enlistAt gain subject left roleOf given iff
-  addcx-good d f = on-frame (call.AddCx d f) d 0 _ (λ n q h. on-frame (call.AddCx d f) f 1 _ (λ m q′ h′. good n q refl (on-domain l n _ (λ k.
+  addcx-good d f = on-offer (call.AddCx d f) d f 1 _ (λ m h′ n q k. good n q refl (
       iff-both (Turn base t l l (n .0)) _ _ _
       (λ e.
       let a : life (view t) (number (view t) (n .0)) ≡ CONFIGURED = eqb-true _ _ e in
@@ -186,20 +211,20 @@ module _ (base : Hpa) (t : Tables) (l : Lists) (st : State base t l) where
       let b : listed (view t) (number (view t) (n .0)) < controlPages = ltb-true _ _ e′ in
       iff-both (Turn base t l l (n .0)) _ _ _
       (λ e″.
-      let c : kind (view t) (m .0) ≡ NDA = eqb-true _ _ e″ in
+      let c = is-nda t m e″ in
       rw (gain-room (n .0) (m .0) k h′ c) (enlist-turn base t l st (n .0) (record { tdr = k; held = λ z. omega arith }) b (m .0) c))
       (λ _. refused 2 1 (omega arith) (omega arith)))
       (λ _. refused 4 0 (omega arith) (omega arith)))
-      (λ _. refused 3 0 (omega arith) (omega arith))))))
+      (λ _. refused 3 0 (omega arith) (omega arith))))
 
   -- a key that create may give is no keyed domain's
-  sole : (key′ : ℕ) → plans.keyUnused t (extent t .tables) key′ ≡ true → (e : ℕ) → Keyed (view t) e → key (view t) (number (view t) e) ≡ key′ → ⊥
+  sole : (key′ : ℕ) → plans.keyUnused (t .domains) (t .stock) (extent t .tables) (length (t .entries) / tableEntries) key′ ≡ true → (e : ℕ) → Keyed (view t) e → key (view t) (number (view t) e) ≡ key′ → ⊥
   unfolding plans.keyUnused plans.otherKey given iff
   sole key′ u e k q =
       let n = number (view t) e in
       let low = record-low base t (st .lent) e (k .tdr) in
       let back : extent t .tables + n - extent t .tables ≡ n = omega arith in
-      let a = at-from (plans.otherKey t (extent t .tables) key′) _ (extent t .tables) (extent t .tables + n) u (omega arith) (omega (arith, low, sized base t (st .lent .sizes) .blocks)) in
+      let a = at-from (plans.otherKey (t .domains) (t .stock) (extent t .tables) key′) _ (extent t .tables) (extent t .tables + n) u (omega arith) (omega (arith, low, sized base t (st .lent .sizes) .blocks)) in
       k .held (eqb-true _ _ (rw (st .ok .used TDR e a-record (k .tdr), back, eq-eqb (key (view t) n) key′ q) at a))
 
   pub create-good : (f : Hpa) (key′ : ℕ) → Good base t l (call.Create f key′) (plans.createPlan base t f key′)
@@ -212,42 +237,41 @@ module _ (base : Hpa) (t : Tables) (l : Lists) (st : State base t l) where
       let w = lowest-found (t .stock) _ _ b a in
       let first : ℕ = extent t .tables in
       let r : first + (b - first) ≡ b = omega (arith, w .since) in
-      subst (λ (x : ℕ). Turn base t l l (n .0) (plans.newRecord n key′ x (b - first))) r
-      (new-turn base t l st (n .0) (eqb-true _ _ e′) key′ (b - first) (ap (view t .used) r ∙ w .unused) (sole key′ alone))))
+      let low : b - first < sizesIn t .records = omega (arith, w .below, w .since, sized base t (st .lent .sizes) .blocks) in
+      rw (root-is t (b - first) low)
+      (subst (λ (x : ℕ). Turn base t l l (n .0) (plans.newRecord n key′ x (first + (b - first)) (b - first))) r
+      (new-turn base t l st (n .0) (is-nda t n e′) key′ (b - first) (ap (view t .used) r ∙ w .unused) (sole key′ alone)))))
       (λ _. refused 10 1 (omega arith) (omega arith)))
       (λ _. refused 2 0 (omega arith) (omega arith)))
       (λ _. refused 1 1 (omega arith) (omega arith))))
 
   -- ---- the calls on a domain's tree
 
+  offer : (n : Pfn) → Keyed (view t) (n .0) → (gpa : Gpa) (level : ℕ) (m : Pfn) (k : ℕ) → ReachSays (Offered (IsEntry t (n .0) FREE FREE) t m) Mild (adds.freeFor t (looked t (n .0)) gpa level m k)
+  offer n kd gpa level m k = free-says t Mild mild (looked t (n .0)) gpa level m k (entry-for base t l st (n .0) kd gpa level FREE FREE)
+
+  -- the entry was FREE
+  was-free : (n : Pfn) (m : Pfn) (b i : ℕ) (e : Entry) → Offered (IsEntry t (n .0) FREE FREE) t m b i e → view t .entry b i .state ≡ FREE
+  was-free n m b i e o = omega (arith, o .entry .state, ap (λ (y : Entry). y .state) (o .entry .entry))
+
   pub septadd-good : (d : Hpa) (gpa : Gpa) (level : ℕ) (f : Hpa) → Good base t l (call.SeptAdd d gpa level f) (adds.septaddPlan base t d gpa level f)
   unfolding adds.septaddPlan adds.septAt gain subject left roleOf given iff
-  septadd-good d gpa level f = on-spot (call.SeptAdd d gpa level f) d gpa level 1 _ (λ n q h. on-frame (call.SeptAdd d gpa level f) f 3 _ (λ m q′ h′.
-      good n q refl (on-built n INITIALIZED RUNNABLE _ (λ k live.
-      iff-both (Turn base t l l (n .0)) _ _ _
-      (λ e.
-      let c : kind (view t) (m .0) ≡ NDA = eqb-true _ _ e in
-      on-reach (Turn base t l l (n .0)) (entry-for base t l st (n .0) k gpa level FREE FREE) Say _ (λ a z. says z) (λ b i x ix.
+  septadd-good d gpa level f = on-spot (call.SeptAdd d gpa level f) d gpa level 1 f 3 INITIALIZED RUNNABLE _ (λ m h′ n q k live. good n q refl (
+      on-reach (Turn base t l l (n .0)) (offer n k gpa level m 3) Say _ (λ a z. says z) (λ b i x ix.
       on-lowest (Turn base t l l (n .0)) _ (refuse 11 0) _ (refused 11 0 (omega arith) (omega arith)) (λ j a.
       let w = lowest-found (t .stock) _ _ j a in
-      rw (gain-room (n .0) (m .0) (k .tdr) h′ c)
-      (put-turn base t l st (n .0) k live b i (ix .spot) (omega (arith, ix .state, ap (λ (y : Entry). y .state) (ix .entry))) (m .0) c
-      (newEpt (frame (n .0)) j) refl NL-MAPPED (rw (table-shape NL-MAPPED refl) fits-table) (stocks.Table j) (a-new refl (w .below) (w .unused))))))
-      (λ _. refused 2 3 (omega arith) (omega arith))))))
+      rw (gain-room (n .0) (m .0) (k .tdr) h′ (ix .free))
+      (put-turn base t l st (n .0) k live b i (ix .entry .spot) (was-free n m b i x ix) (m .0) (ix .free)
+      (newEpt (frame (n .0)) j) refl NL-MAPPED (rw (table-shape NL-MAPPED refl) fits-table) (stocks.Table j) (a-new refl (w .below) (w .unused)))))))
 
   page-good : (c : Call) (d : Hpa) (gpa : Gpa) (f : Hpa) (op′ state : ℕ) → shapeOf state ≡ page → INITIALIZED ≤ op′
       → subject base t (roleOf c) ≡ placeIn base t d → left base t (roleOf c) l ≡ l → Good base t l c (adds.pagePlan base t d gpa f op′ state)
   unfolding adds.pagePlan adds.pageAt gain given iff
-  page-good c d gpa f op′ state sh init su le = on-spot c d gpa 0 0 _ (λ n q h. on-frame c f 2 _ (λ m q′ h′.
-      good n (su ∙ q) le (on-built n op′ op′ _ (λ k from.
-      iff-both (Turn base t l l (n .0)) _ _ _
-      (λ e.
-      let z : kind (view t) (m .0) ≡ NDA = eqb-true _ _ e in
-      on-reach (Turn base t l l (n .0)) (entry-for base t l st (n .0) k gpa 0 FREE FREE) Say _ (λ a y. says y) (λ b i x ix.
-      rw (gain-room (n .0) (m .0) (k .tdr) h′ z)
-      (put-turn base t l st (n .0) k (le-trans init from) b i (ix .spot) (omega (arith, ix .state, ap (λ (y : Entry). y .state) (ix .entry))) (m .0) z
-      (newReg (frame (n .0))) refl state (rw sh fits-page) (stocks.Keep) (no-table (λ z. omega arith)))))
-      (λ _. refused 2 2 (omega arith) (omega arith))))))
+  page-good c d gpa f op′ state sh init su le = on-spot c d gpa 0 0 f 2 op′ op′ _ (λ m h′ n q k since. good n (su ∙ q) le (
+      on-reach (Turn base t l l (n .0)) (offer n k gpa 0 m 2) Say _ (λ a y. says y) (λ b i x ix.
+      rw (gain-room (n .0) (m .0) (k .tdr) h′ (ix .free))
+      (put-turn base t l st (n .0) k (le-trans init since) b i (ix .entry .spot) (was-free n m b i x ix) (m .0) (ix .free)
+      (newReg (frame (n .0))) refl state (rw sh fits-page) (stocks.Keep) (no-table (λ z. omega arith))))))
 
   mapped-shape : shapeOf MAPPED ≡ page
   unfolding shapeOf iff
@@ -281,29 +305,29 @@ module _ (base : Hpa) (t : Tables) (l : Lists) (st : State base t l) where
 
   pub block-good : (d : Hpa) (gpa : Gpa) (level : ℕ) → Good base t l (call.Block d gpa level) (trees.blockPlan base t d gpa level)
   unfolding trees.blockPlan trees.blockAt subject left roleOf given
-  block-good d gpa level = on-spot (call.Block d gpa level) d gpa level 0 _ (λ n q h. good n q refl (on-built n INITIALIZED RUNNABLE _ (λ k live.
+  block-good d gpa level = on-live (call.Block d gpa level) d gpa level 0 _ (λ n q k live. good n q refl (
       on-reach (Turn base t l l (n .0)) (entry-for base t l st (n .0) k gpa level NL-MAPPED PENDING) Say _ (λ a z. says z) (λ b i x ix.
-      block-turn (n .0) b i x k live ix))))
+      block-turn (n .0) b i x k live ix)))
+
+  -- a tracked entry: its frame's 14 never comes
+  tracked : (n : Pfn) → Keyed (view t) (n .0) → (gpa : Gpa) (level least most : ℕ) → NL-BLOCKED ≤ least
+      → ReachSays (Owned (IsEntry t (n .0) least most) t (looked t (n .0))) Mild (trees.trackedFor t (looked t (n .0)) gpa level least most)
+  tracked n k gpa level least most h = tracked-says t Mild mild (looked t (n .0)) gpa level least most (entry-for base t l st (n .0) k gpa level least most)
+      (λ b i e ie u. absurd (true≢false (sym (own-frame base t l st (n .0) b i k (ie .spot) (λ z. omega (arith, ie .state, ap (λ (y : Entry). y .state) (ie .entry)))) ∙ rw (ie .entry) at u)))
 
   unblock-turn : (d b i : ℕ) (e : Entry) → Keyed (view t) d → INITIALIZED ≤ op (view t) (number (view t) d) → IsEntry t d NL-BLOCKED PENDING-BLOCKED b i e
-      → Turn base t l l d (iff (ownFrame (t .frames) (t .stock) (frame d) e)
-      (Do (edit (frames.Keep) (pageEdits.Keep) (domainEdits.Keep) (stocks.Keep) (entries.Set b i (entry (unblockedState (e .state)) (e .frame)))))
-      (refuse 14 0))
-  unfolding iff
+      → Turn base t l l d (Do (edit (frames.Keep) (pageEdits.Keep) (domainEdits.Keep) (stocks.Keep) (entries.Set b i (entry (unblockedState (e .state)) (e .frame)))))
   unblock-turn d b i e k live ie =
       let q = ap (λ (y : Entry). y .state) (ie .entry) in
       let some : view t .entry b i .state ≡ FREE → ⊥ = λ z. omega (arith, ie .state) in
-      rw (ie .entry, own-frame base t l st d b i k (ie .spot) some)
+      rw (ie .entry)
       (entry-turn base t l st d k live b i (ie .spot) some (unblockedState (view t .entry b i .state)) (unblocked-shape _ (omega (arith, ie .state)) (omega (arith, ie .state)))
       (frames.Keep) (view t .frame (points (view t) b i)) frame-stays refl refl refl)
 
   pub unblock-good : (d : Hpa) (gpa : Gpa) (level : ℕ) → Good base t l (call.Unblock d gpa level) (trees.unblockPlan base t d gpa level)
   unfolding trees.unblockPlan trees.unblockAt subject left roleOf given
-  unblock-good d gpa level = on-spot (call.Unblock d gpa level) d gpa level 0 _ (λ n q h. good n q refl (on-built n INITIALIZED RUNNABLE _ (λ k live.
-      on-reach (Turn base t l l (n .0)) (entry-for base t l st (n .0) k gpa level NL-BLOCKED PENDING-BLOCKED) Say _ (λ a z. says z) (λ b i x ix.
-      iff-both (Turn base t l l (n .0)) _ _ _
-      (λ _. unblock-turn (n .0) b i x k live ix)
-      (λ _. refused 8 0 (omega arith) (omega arith))))))
+  unblock-good d gpa level = on-live (call.Unblock d gpa level) d gpa level 0 _ (λ n q k live. good n q refl (
+      on-reach (Turn base t l l (n .0)) (tracked n k gpa level NL-BLOCKED PENDING-BLOCKED (omega arith)) Say _ (λ a z. says z) (λ b i x ix. unblock-turn (n .0) b i x k live (ix .entry))))
 
   -- the count's 14 never comes where a domain has a frame
   lose-some : (d F : ℕ) → kind (view t) d ≡ TDR → Belongs (view t) d F → eqb (children (view t) (number (view t) d)) 0 ≡ false
@@ -321,36 +345,29 @@ module _ (base : Hpa) (t : Tables) (l : Lists) (st : State base t l) where
   entry-belongs d b i k sp some = let m = entry-own base t l st d b i k sp some in record { type = rw (m .kind) (m .typed); owner = m .owner }
 
   pageremove-turn : (d b i : ℕ) (e : Entry) → Keyed (view t) d → INITIALIZED ≤ op (view t) (number (view t) d) → IsEntry t d BLOCKED PENDING-BLOCKED b i e
-      → Turn base t l l d (iff (ownFrame (t .frames) (t .stock) (frame d) e) (lose (looked t d) (e .frame) (stocks.Keep) (entries.Set b i freeEntry)) (refuse 14 0))
+      → Turn base t l l d (lose (looked t d) (e .frame) (stocks.Keep) (entries.Set b i freeEntry))
   unfolding iff lose given
   pageremove-turn d b i e k live ie =
       let q = ap (λ (y : Entry). y .state) (ie .entry) in
       let some : view t .entry b i .state ≡ FREE → ⊥ = λ z. omega (arith, ie .state) in
       let m = entry-own base t l st d b i k (ie .spot) some in
       let ty : kind (view t) (points (view t) b i) ≡ REG = m .kind ∙ page-type _ (omega (arith, ie .state)) in
-      rw (ie .entry, own-frame base t l st d b i k (ie .spot) some, lose-some d _ (k .tdr) (entry-belongs d b i k (ie .spot) some))
+      rw (ie .entry, lose-some d _ (k .tdr) (entry-belongs d b i k (ie .spot) some))
       (take-turn base t l st d k live b i (ie .spot) some (stocks.Keep) (stock-stays (λ j nb z. absurd (not-reg nb (sym z ∙ ty)))) still-keep (λ z. absurd (omega arith)))
 
   pub pageremove-good : (d : Hpa) (gpa : Gpa) → Good base t l (call.PageRemove d gpa) (trees.pageremovePlan base t d gpa)
   unfolding trees.pageremovePlan trees.pageremoveAt subject left roleOf
-  pageremove-good d gpa = on-spot (call.PageRemove d gpa) d gpa 0 0 _ (λ n q h. good n q refl (on-built n INITIALIZED RUNNABLE _ (λ k live.
-      on-reach (Turn base t l l (n .0)) (entry-for base t l st (n .0) k gpa 0 BLOCKED PENDING-BLOCKED) Say _ (λ a z. says z) (λ b i x ix.
-      iff-both (Turn base t l l (n .0)) _ _ _
-      (λ _. pageremove-turn (n .0) b i x k live ix)
-      (λ _. refused 8 0 (omega arith) (omega arith))))))
+  pageremove-good d gpa = on-live (call.PageRemove d gpa) d gpa 0 0 _ (λ n q k live. good n q refl (
+      on-reach (Turn base t l l (n .0)) (tracked n k gpa 0 BLOCKED PENDING-BLOCKED (omega arith)) Say _ (λ a z. says z) (λ b i x ix. pageremove-turn (n .0) b i x k live (ix .entry))))
 
-  empty-at : (b : ℕ) → tableEmpty t b ≡ true → (j : ℕ) → j < tableEntries → view t .entry b j .state ≡ FREE
+  empty-at : (b : ℕ) → tableEmpty (t .entries) b ≡ true → (j : ℕ) → j < tableEntries → view t .entry b j .state ≡ FREE
   unfolding tableEmpty freeAt given
-  empty-at b e j h = eqb-true _ _ (all-at (freeAt t b) tableEntries e j h)
+  empty-at b e j h = eqb-true _ _ (all-at (freeAt (t .entries) b) tableEntries e j h)
 
   septremove-turn : (d b i : ℕ) (e : Entry) → Keyed (view t) d → INITIALIZED ≤ op (view t) (number (view t) d) → IsEntry t d NL-BLOCKED NL-BLOCKED b i e
-      → Turn base t l l d (iff (ownFrame (t .frames) (t .stock) (frame d) e)
-      (iff (tableEmpty t (frameAt (t .frames) (e .frame) .number)) (lose (looked t d) (e .frame) (stocks.Give (frameAt (t .frames) (e .frame) .number)) (entries.Set b i freeEntry)) (refuse 9 0))
-      (refuse 14 0))
-  septremove-turn d b i e k live ie = rw (ie .entry)
-      (iff-both (Turn base t l l d) _ _ _
-      (λ _. iff-both (Turn base t l l d) _ _ _ (λ u. lost u) (λ _. refused 9 0 (omega arith) (omega arith)))
-      (λ u. absurd (true≢false (sym (own-frame base t l st d b i k (ie .spot) some) ∙ u))))
+      → Turn base t l l d (iff (tableEmpty (t .entries) (frameAt (t .frames) (e .frame) .number))
+      (lose (looked t d) (e .frame) (stocks.Give (frameAt (t .frames) (e .frame) .number)) (entries.Set b i freeEntry)) (refuse 9 0))
+  septremove-turn d b i e k live ie = rw (ie .entry) (iff-both (Turn base t l l d) _ _ _ (λ u. lost u) (λ _. refused 9 0 (omega arith) (omega arith)))
     where
       q : e .state ≡ view t .entry b i .state
       q = ap (λ (y : Entry). y .state) (ie .entry)
@@ -361,18 +378,15 @@ module _ (base : Hpa) (t : Tables) (l : Lists) (st : State base t l) where
       ty : kind (view t) (points (view t) b i) ≡ EPT
       ty = entry-own base t l st d b i k (ie .spot) some .kind ∙ table-type _ (omega (arith, ie .state, q))
 
-      lost : tableEmpty t (number (view t) (points (view t) b i)) ≡ true
+      lost : tableEmpty (t .entries) (number (view t) (points (view t) b i)) ≡ true
           → Turn base t l l d (lose (looked t d) (view t .entry b i .frame) (stocks.Give (number (view t) (points (view t) b i))) (entries.Set b i freeEntry))
       lost u = unfold lose given iff in rw (lose-some d _ (k .tdr) (entry-belongs d b i k (ie .spot) some))
           (take-turn base t l st d k live b i (ie .spot) some (stocks.Give (number (view t) (points (view t) b i))) (block-given a-table ty) still-give (λ _. empty-at _ u))
 
   pub septremove-good : (d : Hpa) (gpa : Gpa) (level : ℕ) → Good base t l (call.SeptRemove d gpa level) (trees.septremovePlan base t d gpa level)
   unfolding trees.septremovePlan trees.septremoveAt subject left roleOf given
-  septremove-good d gpa level = on-spot (call.SeptRemove d gpa level) d gpa level 1 _ (λ n q h. good n q refl (on-built n INITIALIZED RUNNABLE _ (λ k live.
-      on-reach (Turn base t l l (n .0)) (entry-for base t l st (n .0) k gpa level NL-BLOCKED NL-BLOCKED) Say _ (λ a z. says z) (λ b i x ix.
-      iff-both (Turn base t l l (n .0)) _ _ _
-      (λ _. septremove-turn (n .0) b i x k live ix)
-      (λ _. refused 8 0 (omega arith) (omega arith))))))
+  septremove-good d gpa level = on-live (call.SeptRemove d gpa level) d gpa level 1 _ (λ n q k live. good n q refl (
+      on-reach (Turn base t l l (n .0)) (tracked n k gpa level NL-BLOCKED NL-BLOCKED (omega arith)) Say _ (λ a z. says z) (λ b i x ix. septremove-turn (n .0) b i x k live (ix .entry))))
 
   -- ---- reclaim: of a TDR, or of a frame of a domain in teardown
 
@@ -394,7 +408,7 @@ module _ (base : Hpa) (t : Tables) (l : Lists) (st : State base t l) where
       let b : Belongs (view t) (owner (view t) f) f = record { type = k; owner = refl } in
       rw (lose-some (owner (view t) f) f (st .ok .owners f k) b) (reclaim-turn base t l st (owner (view t) f) (st .ok .owners f k) dead f b se sa si)
 
-  child-turn : (f : ℕ) → TDR < kind (view t) f → Turn base t l (Struck f) (owner (view t) f) (pages.reclaimChild t (looked t (owner (view t) f)) (frame f) (view t .frame f))
+  child-turn : (f : ℕ) → TDR < kind (view t) f → Turn base t l (Struck f) (owner (view t) f) (pages.reclaimChild (t .stock) (looked t (owner (view t) f)) (frame f) (view t .frame f))
   unfolding pages.reclaimChild
   child-turn f k = iff-both (Turn base t l (Struck f) (owner (view t) f)) _ _ _
       (λ e.
@@ -435,28 +449,28 @@ module _ (base : Hpa) (t : Tables) (l : Lists) (st : State base t l) where
 
   pub readentry-good : (d : Hpa) (gpa : Gpa) (level : ℕ) → Good base t l (call.ReadEntry d gpa level) (trees.readentryPlan base t d gpa level)
   unfolding trees.readentryPlan trees.readentryAt subject left roleOf given
-  readentry-good d gpa level = on-spot (call.ReadEntry d gpa level) d gpa level 0 _ (λ n q h. good n q refl (on-built n INITIALIZED RUNNABLE _ (λ k live.
+  readentry-good d gpa level = on-live (call.ReadEntry d gpa level) d gpa level 0 _ (λ n q k live. good n q refl (
       on-walk (Turn base t l l (n .0)) (walk-good base t l st (n .0) k gpa level topLevel _ (λ b p. p)) _ _ _
-      (λ j i. says (mild-stop 6 j i (omega arith) (omega arith)))
-      (λ b i sp. iff-both (Turn base t l l (n .0)) _ _ _ (λ _. reads (reads-entry _ _ _) refl) (λ _. reads (reads-entry _ _ _) refl)))))
+      (λ j i. says (mild-stop 6 j i (omega arith) (omega arith))) (λ z. absurd z)
+      (λ b i sp. iff-both (Turn base t l l (n .0)) _ _ _ (λ _. reads (reads-entry _ _ _) refl) (λ _. reads (reads-entry _ _ _) refl))))
 
   -- every call
   pub plan-good : (c : Call) → Good base t l c (planOf base t c)
   unfolding planOf
   plan-good (call.Create f key) = create-good f key
-  plan-good (call.KeyConfig d) = keyconfig-good d
+  plan-good (call.KeyConfig d) = unfold subject left roleOf in life-good (call.KeyConfig d) d ASSIGNED ASSIGNED CONFIGURED (omega arith) (omega arith) refl refl
   plan-good (call.AddCx d f) = addcx-good d f
-  plan-good (call.Init d) = init-good d
+  plan-good (call.Init d) = unfold subject left roleOf in op-good (call.Init d) d UNINITIALIZED INITIALIZED (λ z. omega arith) refl refl
   plan-good (call.SeptAdd d gpa level f) = septadd-good d gpa level f
   plan-good (call.PageAdd d gpa f) = pageadd-good d gpa f
-  plan-good (call.Finalize d) = finalize-good d
+  plan-good (call.Finalize d) = unfold subject left roleOf in op-good (call.Finalize d) d INITIALIZED RUNNABLE (λ z. omega arith) refl refl
   plan-good (call.PageAug d gpa f) = pageaug-good d gpa f
   plan-good (call.Block d gpa level) = block-good d gpa level
   plan-good (call.Track d) = track-good d
   plan-good (call.Unblock d gpa level) = unblock-good d gpa level
   plan-good (call.PageRemove d gpa) = pageremove-good d gpa
   plan-good (call.SeptRemove d gpa level) = septremove-good d gpa level
-  plan-good (call.FlushDone d) = flushdone-good d
+  plan-good (call.FlushDone d) = unfold subject left roleOf in life-good (call.FlushDone d) d ASSIGNED CONFIGURED BLOCKED-LIFE (omega arith) (omega arith) refl refl
   plan-good (call.KeyFree d) = keyfree-good d
   plan-good (call.Reclaim f) = reclaim-good f
   plan-good (call.ReadPage f) = readpage-good f

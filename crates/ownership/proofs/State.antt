@@ -1,7 +1,7 @@
 -- What the domain, the walk and the entry of a call are in a sound state that answer 13 has nothing to say of: plan/specs' own lookups, once for all calls.
-use mathlib.Core.Path.{_≡_, refl, sym, ap, _∙_}
+use mathlib.Core.Path.{_≡_, refl, sym, _∙_}
 use mathlib.Core.Bool.{Bool, true, true≢false}
-use Prim.Native.Nat.{ℕ, zero, suc, _-_, _/_, _<_, _≤_}
+use Prim.Native.Nat.{ℕ, zero, suc, _-_, _/_, _<_, _≤_, _+_}
 use native.Mathlib.Omega.{arith}
 use lib.ListN.{length}
 use borrow.Author.Tests.{eqb-true, eq-eqb}
@@ -16,29 +16,24 @@ use Rattle.stock.specs.Bits.{inUse}
 use Rattle.ledger.specs.Codes.{NDA, TDR, EPT, FREE, NL-MAPPED}
 use Rattle.ledger.specs.Tables.{Tables}
 use Rattle.ledger.specs.declared.words.Entry.{Entry}
-use Rattle.walk.specs.Walk.{entryType, ownFrame, walkFrom, onWalk}
-use Rattle.walk.specs.declared.Walk.{Walk}
-use Rattle.walk.specs.declared.Walk.the-variants as walked
-use Rattle.calls.specs.declared.Answer.{Answer}
-use Rattle.plan.specs.Lookup.{onLookup, domainFor, builtFor, rootIn}
-use Rattle.plan.specs.Entries.{entryFor, onReach}
+use Rattle.walk.specs.Walk.{entryType, ownFrame, walkFrom}
+use Rattle.plan.specs.Lookup.{domainFor, bitIn, rootIn}
+use Rattle.plan.specs.Entries.{entryFor}
 use Rattle.plan.specs.declared.lookup.Found.{Found as Looked}
-use Rattle.plan.specs.declared.lookup.Lookup.{Lookup}
 use Rattle.plan.specs.declared.lookup.Lookup.the-variants as lookup
-use Rattle.plan.specs.declared.entry.Reach.{Reach}
-use Rattle.plan.specs.declared.entry.Reach.the-variants as reach
-use Rattle.keeps.specs.Views.{kind, op, number, children, frame, view}
+use Rattle.keeps.specs.Views.{kind, number, children, frame, view}
 use Rattle.ownership.specs.Owned.{points, found, tree, Keyed, Belongs, rootOf as rootBlock}
 use Rattle.ownership.specs.Reached.{extent, Lists}
 use Rattle.ownership.proofs.Walk.{Path·to, here, down}
 use Rattle.ownership.proofs.Domain.{Mine, owns-size}
 use Rattle.ownership.specs.Always.{a-record, a-table}
 use Rattle.ownership.proofs.Sound.{held, Sound}
-use Rattle.keeps.proofs.Ranged.{between-true, both-of, Lent}
+use Rattle.keeps.proofs.Ranged.{between-true, both-of, Lent, bit-is, root-is}
 use Rattle.ownership.proofs.Tidy.{Tidy}
 use Rattle.ownership.proofs.Room.{entry-mine, has-child, child-room}
 use Rattle.keeps.proofs.Facts.{in-window}
-use Rattle.keeps.proofs.Lookups.{record-low, root-is}
+use Rattle.keeps.proofs.Says.{LookupSays, is, not, ReachSays, reached, missed, WalkSays, at, stopped, on-walk}
+use Rattle.keeps.proofs.Lookups.{record-low}
 use Rattle.ownership.proofs.Facts.{Mild, mild-no, mild-stop, table-shape, fits-state}
 
 pub record State (base : Hpa) (t : Tables) (l : Lists) : Type 0 where
@@ -46,51 +41,20 @@ pub record State (base : Hpa) (t : Tables) (l : Lists) : Type 0 where
   pub ok : Sound (extent t) (view t) l
   pub tidy : Tidy (extent t) (view t)
 
--- a rule's answer, taken apart: what it found is Q, and a refusal is mild
-pub data LookupGood (Q : Looked → Type 0) : Lookup → Type 0 where
-  is : {x : Looked} → Q x → LookupGood Q (lookup.Is x)
-  not : {a : Answer} → Mild a → LookupGood Q (lookup.Not a)
-
-pub data ReachGood (Q : ℕ → ℕ → Entry → Type 0) : Reach → Type 0 where
-  at : {b i : ℕ} {e : Entry} → Q b i e → ReachGood Q (reach.At b i e)
-  not : {a : Answer} → Mild a → ReachGood Q (reach.Not a)
-
-pub data WalkGood (Q : ℕ → ℕ → Type 0) : Walk → Type 0 where
-  at : {b i : ℕ} → Q b i → WalkGood Q (walked.At b i)
-  stopped : {l j : ℕ} → WalkGood Q (walked.Stopped l j)
-
-module _ {A : Type 0} (P : A → Type 0) where
-  pub on-lookup : {Q : Looked → Type 0} {q : Lookup} → LookupGood Q q → (z : Answer → A) (k : Looked → A)
-      → ((a : Answer) → Mild a → P (z a)) → ((x : Looked) → Q x → P (k x)) → P (onLookup q z k)
-  unfolding onLookup
-  on-lookup (is {x} h) z k f g = g x h
-  on-lookup (not {a} h) z k f g = f a h
-
-  pub on-reach : {Q : ℕ → ℕ → Entry → Type 0} {q : Reach} → ReachGood Q q → (z : Answer → A) (k : ℕ → ℕ → Entry → A)
-      → ((a : Answer) → Mild a → P (z a)) → ((b i : ℕ) (e : Entry) → Q b i e → P (k b i e)) → P (onReach q z k)
-  unfolding onReach
-  on-reach (at {b} {i} {e} h) z k f g = g b i e h
-  on-reach (not {a} h) z k f g = f a h
-
-  pub on-walk : {Q : ℕ → ℕ → Type 0} {q : Walk} → WalkGood Q q → (s : ℕ → ℕ → A) (z : A) (k : ℕ → ℕ → A)
-      → ((l j : ℕ) → P (s l j)) → ((b i : ℕ) → Q b i → P (k b i)) → P (onWalk q s z k)
-  unfolding onWalk
-  on-walk (at {b} {i} h) s z k f g = g b i h
-  on-walk (stopped {l} {j}) s z k f g = f l j
-
 -- the domain of TDR d, as a rule finds it
 abbrev pub looked : Tables → ℕ → Looked
-looked t d = record { tdr = frame d; rec = number (view t) d; root = rootBlock (extent t) (view t) d; dom = view t .domain (number (view t) d) }
+looked t d = record {
+  tdr = frame d;
+  rec = number (view t) d;
+  bit = extent t .tables + number (view t) d;
+  root = rootBlock (extent t) (view t) d;
+  top = topLevel;
+  dom = view t .domain (number (view t) d);
+}
 
 pub record IsDomain (t : Tables) (d : ℕ) (x : Looked) : Type 0 where
   pub kind : kind (view t) d ≡ TDR
   pub is : x ≡ looked t d
-
--- .. with its key, which keys configured say, and an op state from `least` on
-pub record IsBuilt (t : Tables) (d least : ℕ) (x : Looked) : Type 0 where
-  pub domain : IsDomain t d x
-  pub keyed : Keyed (view t) d
-  pub op : least ≤ op (view t) (number (view t) d)
 
 -- entry i of block b, on the way of d's tree
 pub record IsSpot (t : Tables) (d b i : ℕ) : Type 0 where
@@ -107,39 +71,26 @@ module _ (base : Hpa) (t : Tables) (l : Lists) (st : State base t l) where
   tdr-used : (d : ℕ) → kind (view t) d ≡ TDR → inUse (t .stock) (rootBlock (extent t) (view t) d) ≡ true
   tdr-used d k = st .ok .used TDR d a-record k
 
-  tdr-root : (d : ℕ) → kind (view t) d ≡ TDR → rootIn t (number (view t) d) ≡ rootBlock (extent t) (view t) d
-  tdr-root d k = root-is base t (st .lent) _ (record-low base t (st .lent) d k)
+  tdr-bit : (d : ℕ) → kind (view t) d ≡ TDR → bitIn t (number (view t) d) ≡ extent t .tables + number (view t) d
+  tdr-bit d k = bit-is t _ (record-low base t (st .lent) d k)
 
-  pub domain-for : (n : Pfn) → LookupGood (IsDomain t (n .0)) (domainFor t n)
+  tdr-root : (d : ℕ) → kind (view t) d ≡ TDR → rootIn t (number (view t) d) ≡ rootBlock (extent t) (view t) d
+  tdr-root d k = root-is t _ (record-low base t (st .lent) d k)
+
+  pub domain-for : (n : Pfn) → LookupSays (IsDomain t (n .0)) Mild (domainFor t n)
   unfolding domainFor given
-  domain-for n = iff-both (LookupGood (IsDomain t (n .0))) _ _ _
+  domain-for n = iff-both (LookupSays (IsDomain t (n .0)) Mild) _ _ _
       (λ e.
       let k : kind (view t) (n .0) ≡ TDR = eqb-true _ _ e in
-      let r = tdr-root (n .0) k in
-      iff-both (LookupGood (IsDomain t (n .0))) _ _ _
-      (λ _. is (record { kind = k; is = rw r refl }))
-      (λ u. absurd (true≢false (sym (tdr-used (n .0) k) ∙ rw r at u))))
+      let b = tdr-bit (n .0) k in
+      iff-both (LookupSays (IsDomain t (n .0)) Mild) _ _ _
+      (λ _. is (record { kind = k; is = rw (b, tdr-root (n .0) k) refl }))
+      (λ u. absurd (true≢false (sym (tdr-used (n .0) k) ∙ rw b at u))))
       (λ _. not (mild-no 2 0 (omega arith) (omega arith)))
 
   pub domain-is : (n : Pfn) → kind (view t) (n .0) ≡ TDR → domainFor t n ≡ lookup.Is (looked t (n .0))
   unfolding domainFor given iff
-  domain-is n k = rw (eq-eqb (kind (view t) (n .0)) TDR k, tdr-root (n .0) k, tdr-used (n .0) k) refl
-
-  pub built-for : (n : Pfn) (least most : ℕ) → LookupGood (IsBuilt t (n .0) least) (builtFor t n least most)
-  unfolding builtFor
-  built-for n least most =
-      on-lookup (LookupGood (IsBuilt t (n .0) least)) (domain-for n) lookup.Not _ (λ a m. not m) (λ x d.
-      iff-both (LookupGood (IsBuilt t (n .0) least)) _ _ _
-      (λ a. iff-both (LookupGood (IsBuilt t (n .0) least)) _ _ _
-      (λ _. iff-both (LookupGood (IsBuilt t (n .0) least)) _ _ _
-      (λ o. is (record {
-        domain = d;
-        keyed = record { tdr = d .kind; held = λ q. omega (arith, sym (ap (λ (y : Looked). y .dom .life) (d .is)) ∙ eqb-true _ _ a) };
-        op = omega (arith, ap (λ (y : Looked). y .dom .op) (d .is), between-true _ _ _ o);
-      }))
-      (λ _. not (mild-no 5 0 (omega arith) (omega arith))))
-      (λ _. not (mild-no 4 0 (omega arith) (omega arith))))
-      (λ _. not (mild-no 3 0 (omega arith) (omega arith))))
+  domain-is n k = rw (eq-eqb (kind (view t) (n .0)) TDR k, tdr-bit (n .0) k, tdr-root (n .0) k, tdr-used (n .0) k) refl
 
   -- an entry that isn't FREE, on the way of d's tree, names a frame of d's with its type
   pub entry-own : (d b i : ℕ) → Keyed (view t) d → IsSpot t d b i → (view t .entry b i .state ≡ FREE → ⊥) → Mine (view t) d (found (points (view t) b i) (entryType (view t .entry b i .state)))
@@ -157,31 +108,31 @@ module _ (base : Hpa) (t : Tables) (l : Lists) (st : State base t l) where
   module _ (d : ℕ) (kd : Keyed (view t) d) (gpa : Gpa) (want : ℕ) where
     pub walk-good : (level block : ℕ)
         → ((b : ℕ) → Path·to (tree (view t)) tableEntries b (suc level) block → Path·to (tree (view t)) tableEntries b (length levels) (rootBlock (extent t) (view t) d))
-        → WalkGood (IsSpot t d) (walkFrom (t .frames) (t .stock) (t .entries) (frame d) gpa want level block)
+        → WalkSays (IsSpot t d) ⊥ (walkFrom (t .frames) (t .stock) (t .entries) (frame d) gpa want level block)
     unfolding walkFrom given indexAt
     walk-good zero block f = at {i = indexAt gpa zero} (record { path = f block here; place = omega arith })
     walk-good (suc level) block f =
         let i = indexAt gpa (suc level) in
         let w : i < tableEntries = omega arith in
-        iff-both (WalkGood (IsSpot t d)) _ _ _
+        iff-both (WalkSays (IsSpot t d) ⊥) _ _ _
         (λ _. at (record { path = f block here; place = w }))
-        (λ _. iff-both (WalkGood (IsSpot t d)) _ _ _
+        (λ _. iff-both (WalkSays (IsSpot t d) ⊥) _ _ _
         (λ e.
         let q : view t .entry block i .state ≡ NL-MAPPED = eqb-true _ _ e in
         let sp : IsSpot t d block i = record { path = f block here; place = w } in
-        iff-both (WalkGood (IsSpot t d)) _ _ _
+        iff-both (WalkSays (IsSpot t d) ⊥) _ _ _
         (λ _. walk-good level (number (view t) (points (view t) block i)) (λ b p. f b (down i w (table-shape _ q) p)))
         (λ u. absurd (true≢false (sym (own-frame d block i kd sp (λ z. omega arith)) ∙ u))))
         (λ _. stopped))
 
-  pub entry-for : (d : ℕ) → Keyed (view t) d → (gpa : Gpa) (level least most : ℕ) → ReachGood (IsEntry t d least most) (entryFor t (looked t d) gpa level least most)
+  pub entry-for : (d : ℕ) → Keyed (view t) d → (gpa : Gpa) (level least most : ℕ) → ReachSays (IsEntry t d least most) Mild (entryFor t (looked t d) gpa level least most)
   unfolding entryFor given
   entry-for d kd gpa level least most =
-      on-walk (ReachGood (IsEntry t d least most)) (walk-good d kd gpa level topLevel (rootBlock (extent t) (view t) d) (λ b p. p)) _ _ _
-      (λ j k. not (mild-stop 6 j k (omega arith) (omega arith)))
-      (λ b i sp. iff-both (ReachGood (IsEntry t d least most)) _ _ _
-      (λ e. at (record { spot = sp; entry = refl; state = between-true _ _ _ e }))
-      (λ _. not (mild-stop 7 level _ (omega arith) (omega arith))))
+      on-walk (ReachSays (IsEntry t d least most) Mild) (walk-good d kd gpa level topLevel (rootBlock (extent t) (view t) d) (λ b p. p)) _ _ _
+      (λ j k. missed (mild-stop 6 j k (omega arith) (omega arith))) (λ z. absurd z)
+      (λ b i sp. iff-both (ReachSays (IsEntry t d least most) Mild) _ _ _
+      (λ e. reached (record { spot = sp; entry = refl; state = between-true _ _ _ e }))
+      (λ _. missed (mild-stop 7 level _ (omega arith) (omega arith))))
 
   -- while a frame is free, a domain's count has room; who has a frame has a child
   pub count-room : (d F : ℕ) → kind (view t) d ≡ TDR → F < length (t .frames) → kind (view t) F ≡ NDA → children (view t) (number (view t) d) < length (t .frames)

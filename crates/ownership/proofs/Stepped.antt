@@ -53,7 +53,7 @@ pub data RecordAt (t : Tables) (r : ℕ) (se : StockEdit) : DomainEdit → Domai
 pub data StockAt (t : Tables) (F r : ℕ) (fr : Frame) : StockEdit → Type 0 where
   stock-stays : ((k : ℕ) → Numbered k → kind (view t) F ≡ k → (fr .kind ≡ k) × (fr .number ≡ number (view t) F)) → StockAt t F r fr (stocks.Keep)
   table-taken : kind (view t) F ≡ NDA → fr .kind ≡ EPT → StockAt t F r fr (stocks.Table (fr .number))
-  record-taken : kind (view t) F ≡ NDA → fr .kind ≡ TDR → fr .number ≡ r → StockAt t F r fr (stocks.Record (extent t .tables + r) r)
+  record-taken : kind (view t) F ≡ NDA → fr .kind ≡ TDR → fr .number ≡ r → StockAt t F r fr (stocks.Record (extent t .tables + r) (extent t .tables + r) r)
   block-given : {k : ℕ} (nb : Numbered k) → kind (view t) F ≡ k → StockAt t F r fr (stocks.Give (blockOf (extent t) nb (number (view t) F)))
 
 module _ (t : Tables) (F : ℕ) where

@@ -423,14 +423,14 @@ module _ (base : Hpa) (t : Tables) (l : Lists) (st : State base t l) (d : ℕ) (
 module _ (base : Hpa) (t : Tables) (l : Lists) (st : State base t l) (F : ℕ) (free : kind (view t) F ≡ NDA) (key′ r : ℕ) (unused : view t .used (extent t .tables + r) ≡ false)
     (sole : (e : ℕ) → Keyed (view t) e → key (view t) (number (view t) e) ≡ key′ → ⊥) where
   abbrev new-edit : Edit
-  new-edit = edit (frames.Set (frame F) (newTdr r)) (pages.Keep) (domains.Set r (domain key′ ASSIGNED UNINITIALIZED 0 0 1)) (stocks.Record (extent t .tables + r) r) (entries.Keep)
+  new-edit = edit (frames.Set (frame F) (newTdr r)) (pages.Keep) (domains.Set r (domain key′ ASSIGNED UNINITIALIZED 0 0 1 0)) (stocks.Record (extent t .tables + r) (extent t .tables + r) r) (entries.Keep)
 
-  pub new-turn : Turn base t l l F (Do (edit (frames.Set (frame F) (newTdr r)) (pages.Keep) (domains.Set r (domain key′ ASSIGNED UNINITIALIZED 0 0 1)) (stocks.Record (extent t .tables + r) r) (entries.Keep)))
+  pub new-turn : Turn base t l l F (Do (edit (frames.Set (frame F) (newTdr r)) (pages.Keep) (domains.Set r (domain key′ ASSIGNED UNINITIALIZED 0 0 1 0)) (stocks.Record (extent t .tables + r) (extent t .tables + r) r) (entries.Keep)))
   unfolding newEntry wipedEntry newUse iff
   new-turn = does (λ a.
       let s = view t in
       let s′ = view (applied new-edit t) in
-      let p : Stepped t s′ F r new-edit (newTdr r) (domain key′ ASSIGNED UNINITIALIZED 0 0 1) = stepped (st .ok) frame-becomes page-stays record-becomes (record-taken free refl refl) a in
+      let p : Stepped t s′ F r new-edit (newTdr r) (domain key′ ASSIGNED UNINITIALIZED 0 0 1 0) = stepped (st .ok) frame-becomes page-stays record-becomes (record-taken free refl refl) a in
       let n : number s′ F ≡ r = ap (λ (x : Frame). x .number) (p .frame) in
       let blank : (i : ℕ) → s′ .entry (extent t .tables + r) i ≡ entryOf 0 = λ i. a .entries (extent t .tables + r) i ∙ rw (eq-eqb (extent t .tables + r) (extent t .tables + r) refl) refl in
       let wiped : (i : ℕ) → s′ .entry (extent t .tables + r) i .state ≡ FREE = λ i. ap (λ (x : Entry). x .state) (blank i) in

@@ -1,4 +1,6 @@
 -- reclaim and readpage: the calls on a frame alone.
+use Prim.Native.Nat.{ℕ}
+use mathlib.Core.List.{List}
 use lib.Dec.{eqb, ltb}
 use Rattle.rules.specs.Rule.{iff, need, given}
 use Rattle.units.specs.Address.{hpaOf}
@@ -27,14 +29,14 @@ unfoldable pub reclaimTdr : Found → Plan
 reclaimTdr x =
     need (eqb (x .dom .life) TEARDOWN) (refuse 3 0) (
     need (eqb (x .dom .children) 0) (refuse 9 0)
-    (Do (edit (frame.Set (x .tdr) freed) page.Keep domains.Keep (stock.Give (x .root)) entries.Keep)))
+    (Do (edit (frame.Set (x .tdr) freed) page.Keep domains.Keep (stock.Give (x .bit)) entries.Keep)))
 
 -- a frame f at n of the owner x: the owner in teardown (3), an EPT's table's 14, the count's 14; a table given back
-unfoldable pub reclaimChild : Tables → Found → Pfn → Frame → Plan
-reclaimChild t x n f =
+unfoldable pub reclaimChild : List ℕ → Found → Pfn → Frame → Plan
+reclaimChild st x n f =
     need (eqb (x .dom .life) TEARDOWN) (refuse 3 0) (
     need (eqb (f .kind) EPT) (lose x n stock.Keep entries.Keep) (
-    need (inUse (t .stock) (f .number)) (refuse 14 0)
+    need (inUse st (f .number)) (refuse 14 0)
     (lose x n (stock.Give (f .number)) entries.Keep)))
 
 -- reclaim: owner (or F itself, a TDR) in teardown; a TDR has child count 0; F NDA; its table or record given back
@@ -44,7 +46,7 @@ reclaimAt t n =
     iff (eqb (f .kind) NDA) (refuse 2 0) (
     iff (eqb (f .kind) TDR)
     (onLookup (domainFor t n) (λ a. refuse 14 0) reclaimTdr)
-    (onLookup (domainFor t (f .owner)) (λ a. refuse 14 0) λ x. reclaimChild t x n f))
+    (onLookup (domainFor t (f .owner)) (λ a. refuse 14 0) λ x. reclaimChild (t .stock) x n f))
 
 unfoldable pub reclaimPlan : Hpa → Tables → Hpa → Plan
 reclaimPlan base t h =

@@ -47,26 +47,19 @@ fn reclaim_tdr(x: Found) -> Plan
                 owner: Pfn(0),
                 number: 0,
                 epoch: 0,
+                size: 0,
             },
         ),
         page: PageEdit::Keep,
         domain: DomainEdit::Keep,
-        stock: StockEdit::Give(x.root),
+        stock: StockEdit::Give(x.bit),
         entry: EntryEdit::Keep,
     })
 }
 
 // A frame of the owner x, in teardown; an EPT's table is given back.
-fn reclaim_child(
-    frames: &[u64],
-    domains: &[u64],
-    stock: &[u64],
-    entries: &[u32],
-    x: Found,
-    n: Pfn,
-    f: Frame,
-) -> Plan
-    ensures { λ r. ⌜ r ≡ reclaimChild (lent (now (frames .entry)) (now (domains .entry)) (now (stock .entry)) (now (entries .entry))) x n f ⌝ }
+fn reclaim_child(stock: &[u64], x: Found, n: Pfn, f: Frame) -> Plan
+    ensures { λ r. ⌜ r ≡ reclaimChild (now (stock .entry)) x n f ⌝ }
 {
     let d = x.dom;
     if d.life != TEARDOWN {
@@ -98,7 +91,7 @@ fn reclaim_at(frames: &[u64], domains: &[u64], stock: &[u64], entries: &[u32], n
     }
     match lookup::find_domain(frames, domains, stock, entries, f.owner) {
         Lookup::Not(_) => Plan::Say(Answer::No(14, 0)),
-        Lookup::Is(x) => reclaim_child(frames, domains, stock, entries, x, n, f),
+        Lookup::Is(x) => reclaim_child(stock, x, n, f),
     }
 }
 

@@ -9,13 +9,15 @@ use Rattle.calls.specs.declared.Answer.{Answer}
 use Rattle.walk.proofs.Walks.{walks}
 use Rattle.stock.proofs.Lowest.{lowests}
 use Rattle.rules.proofs.Steps.{steps}
-use Rattle.plan.specs.Lookup.{onPlace, onOperand, onLookup}
+use Rattle.plan.specs.Lookup.{onPlace, onOperand, onLookup, onParties}
 use Rattle.plan.specs.Entries.{onReach}
 use Rattle.plan.specs.declared.lookup.Operand.{Operand}
 use Rattle.plan.specs.declared.lookup.Operand.the-variants as operand
 use Rattle.plan.specs.declared.lookup.Found.{Found}
 use Rattle.plan.specs.declared.lookup.Lookup.{Lookup}
 use Rattle.plan.specs.declared.lookup.Lookup.the-variants as lookup
+use Rattle.plan.specs.declared.lookup.Parties.{Parties}
+use Rattle.plan.specs.declared.lookup.Parties.the-variants as parties
 use Rattle.plan.specs.declared.entry.Reach.{Reach}
 use Rattle.plan.specs.declared.entry.Reach.the-variants as reach
 
@@ -44,6 +46,14 @@ module _ {A : Type 0} {z : A} where
   unfolding onLookup
   lookup-not b k e h g = rw (← e, h) g
 
+  pub parties-are : {r p : Parties} {x : Found} {m : Pfn} (b : Answer → A) (k : Found → Pfn → A) → r ≡ p → r ≡ parties.Are x m → z ≡ k x m → z ≡ onParties p b k
+  unfolding onParties
+  parties-are b k e h g = rw (← e, h) g
+
+  pub parties-not : {r p : Parties} {a : Answer} (b : Answer → A) (k : Found → Pfn → A) → r ≡ p → r ≡ parties.Not a → z ≡ b a → z ≡ onParties p b k
+  unfolding onParties
+  parties-not b k e h g = rw (← e, h) g
+
   pub reach-at : {r p : Reach} {j i : ℕ} {e : Entry} (b : Answer → A) (k : ℕ → ℕ → Entry → A) → r ≡ p → r ≡ reach.At j i e → z ≡ k j i e → z ≡ onReach p b k
   unfolding onReach
   reach-at b k e h g = rw (← e, h) g
@@ -53,4 +63,4 @@ module _ {A : Type 0} {z : A} where
   reach-not b k e h g = rw (← e, h) g
 
 pub ruleset ons =
-    (place-at, place-outside, operand-frame, operand-bad, lookup-is, lookup-not, reach-at, reach-not, walks, lowests, steps)
+    (place-at, place-outside, operand-frame, operand-bad, lookup-is, lookup-not, parties-are, parties-not, reach-at, reach-not, walks, lowests, steps)

@@ -11,7 +11,8 @@ use Rattle.ledger.specs.declared.words.Frame.{Frame}
 use Rattle.ledger.specs.declared.words.Domain.{Domain}
 use Rattle.calls.specs.declared.Answer.the-variants.{No}
 use Rattle.plan.specs.Edits.{edit, freed, withCounts}
-use Rattle.plan.specs.Lookup.{onOperand, frameOperand, spotOperands}
+use Rattle.plan.specs.Lookup.{onOperand, onParties, frameOperand, noFrame, partiesFor, builtFor, liveFor}
+use Rattle.plan.specs.declared.lookup.Operand.{Operand}
 use Rattle.plan.specs.declared.lookup.Found.{Found}
 use Rattle.plan.specs.declared.edit.FrameEdit.the-variants as frame
 use Rattle.plan.specs.declared.edit.PageEdit.{PageEdit}
@@ -50,6 +51,16 @@ lose x n s e =
 abbrev pub onFrame : Hpa → Tables → Hpa → ℕ → (Pfn → Plan) → Plan
 onFrame base t hpa k next = onOperand (frameOperand base (length (t .frames)) hpa k) (refuse 1) next
 
--- D, a gpa and a level from `least` on
-abbrev pub onSpot : Hpa → Tables → Hpa → Gpa → ℕ → ℕ → (Pfn → Plan) → Plan
-onSpot base t d gpa level least next = onOperand (spotOperands base (length (t .frames)) d gpa level least) (refuse 1) next
+-- F, which is operand k
+abbrev pub operandOf : Hpa → Tables → Hpa → ℕ → (Operand → Plan) → Plan
+operandOf base t f k next = given (frameOperand base (length (t .frames)) f k) next
+
+-- D, of a call that has no F
+abbrev pub onDomain : Hpa → Tables → Hpa → (Found → Plan) → Plan
+onDomain base t d next = onParties (partiesFor base t d noFrame) Say λ x m. next x
+
+abbrev pub onBuilt : Hpa → Tables → Hpa → ℕ → ℕ → (Found → Plan) → Plan
+onBuilt base t d least most next = onParties (builtFor base t d noFrame least most) Say λ x m. next x
+
+abbrev pub onLive : Hpa → Tables → Hpa → Gpa → ℕ → ℕ → (Found → Plan) → Plan
+onLive base t d gpa level lowest next = onParties (liveFor base t d gpa level lowest noFrame) Say λ x m. next x

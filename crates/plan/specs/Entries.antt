@@ -1,11 +1,11 @@
 -- The entry that a call is about: the walk's 6 or 14, then the entry's 7.
 use Prim.Native.Nat.{ℕ}
 use mathlib.Core.Bool.{Bool}
+use mathlib.Core.List.{List}
 use lib.Dec.{eqb, ltb}
 use Rattle.rules.specs.Rule.{iff, need, given}
 use Rattle.rules.specs.Upto.{allFrom}
 use Rattle.units.specs.Limits.{between, tableEntries}
-use Rattle.levels.specs.Level.{topLevel}
 use Rattle.units.specs.declared.address.Gpa.{Gpa}
 use Rattle.units.specs.declared.address.Pfn.{Pfn}
 use Rattle.ledger.specs.Codes.{FREE, NL-MAPPED, MAPPED, PENDING, NL-BLOCKED, BLOCKED, PENDING-BLOCKED}
@@ -19,9 +19,9 @@ use Rattle.plan.specs.declared.lookup.Found.{Found}
 use Rattle.plan.specs.declared.entry.Reach.{Reach}
 use Rattle.plan.specs.declared.entry.Reach.the-variants.{At, Not}
 
--- "begin at the root with level 3"
+-- "begin at the root", at its level
 abbrev pub walkOf : Tables → Found → Gpa → ℕ → Walk
-walkOf t x gpa level = walkFrom (t .frames) (t .stock) (t .entries) (x .tdr) gpa level topLevel (x .root)
+walkOf t x gpa level = walkFrom (t .frames) (t .stock) (t .entries) (x .tdr) gpa level (x .top) (x .root)
 
 -- the entry's state from `least` to `most`
 unfoldable pub entryFor : Tables → Found → Gpa → ℕ → ℕ → ℕ → Reach
@@ -43,12 +43,12 @@ unfoldable pub unblockedState : ℕ → ℕ
 unblockedState s = iff (eqb s NL-BLOCKED) NL-MAPPED (iff (eqb s BLOCKED) MAPPED PENDING)
 
 -- "Tracked" means that the frame's epoch is below the domain's.
-unfoldable pub isTracked : Tables → Pfn → Found → Bool
-isTracked t n x = given (frameAt (t .frames) n) λ f. ltb (f .epoch) (x .dom .epoch)
+unfoldable pub isTracked : List ℕ → Pfn → Found → Bool
+isTracked fs n x = given (frameAt fs n) λ f. ltb (f .epoch) (x .dom .epoch)
 
 -- "its 512 entries FREE"
-unfoldable pub freeAt : Tables → ℕ → ℕ → Bool
-freeAt t b i = given (entryAt (t .entries) b i) λ e. eqb (e .state) FREE
+unfoldable pub freeAt : List ℕ → ℕ → ℕ → Bool
+freeAt es b i = given (entryAt es b i) λ e. eqb (e .state) FREE
 
-unfoldable pub tableEmpty : Tables → ℕ → Bool
-tableEmpty t b = allFrom (freeAt t b) 0 tableEntries
+unfoldable pub tableEmpty : List ℕ → ℕ → Bool
+tableEmpty es b = allFrom (freeAt es b) 0 tableEntries

@@ -71,6 +71,7 @@ pub fn loses(x: Found, n: Pfn, stock: StockEdit, entry: EntryEdit) -> Plan
                 owner: Pfn(0),
                 number: 0,
                 epoch: 0,
+                size: 0,
             },
         ),
         page: PageEdit::Keep,
@@ -90,6 +91,7 @@ pub fn with_counts(d: Domain, listed: u64, children: u64) -> Domain
         listed,
         children,
         epoch: d.epoch,
+        width: d.width,
     }
 }
 
@@ -103,6 +105,7 @@ pub fn with_life(d: Domain, life: u64) -> Domain
         listed: d.listed,
         children: d.children,
         epoch: d.epoch,
+        width: d.width,
     }
 }
 
@@ -116,6 +119,7 @@ pub fn with_op(d: Domain, op: u64) -> Domain
         listed: d.listed,
         children: d.children,
         epoch: d.epoch,
+        width: d.width,
     }
 }
 
@@ -129,5 +133,6 @@ pub fn with_epoch(d: Domain, epoch: u64) -> Domain
         listed: d.listed,
         children: d.children,
         epoch,
+        width: d.width,
     }
 }

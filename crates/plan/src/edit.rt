@@ -21,11 +21,12 @@ pub enum DomainEdit {
     Set(usize, Domain),
 }
 
-// A table taken; a record taken, by the block of its root and its number; a block given back.
+// A table taken, whose block and in-use bit have its number; a record taken, by its in-use bit, the block of its root and its number; a
+// table or a record given back, by its in-use bit.
 pub enum StockEdit {
     Keep,
     Table(usize),
-    Record(usize, usize),
+    Record(usize, usize, usize),
     Give(usize),
 }
 

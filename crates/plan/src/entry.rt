@@ -13,7 +13,6 @@ use ledger::codes::PENDING;
 use ledger::codes::PENDING_BLOCKED;
 use ledger::tables;
 use ledger::words::Entry;
-use levels::ROWS;
 use units::address::Gpa;
 use units::limits;
 use units::limits::TABLE_ENTRIES;
@@ -37,7 +36,7 @@ pub fn walk_of(
 ) -> Walk
     ensures { λ r. ⌜ r ≡ walkOf (lent (now (frames .entry)) (now (domains .entry)) (now (stock .entry)) (now (entries .entry))) x gpa level ⌝ }
 {
-    walk::walk_from(frames, stock, entries, x.tdr, gpa, level, ROWS - 1, x.root)
+    walk::walk_from(frames, stock, entries, x.tdr, gpa, level, x.top, x.root)
 }
 
 // The entry of a gpa at a level, its state from `least` to `most`.
@@ -91,32 +90,19 @@ pub fn unblocked_state(state: u64) -> u64
     PENDING
 }
 
-fn free_at(
-    frames: &[u64],
-    domains: &[u64],
-    stock: &[u64],
-    entries: &[u32],
-    block: usize,
-    index: usize,
-) -> bool
-    ensures { λ r. ⌜ r ≡ freeAt (lent (now (frames .entry)) (now (domains .entry)) (now (stock .entry)) (now (entries .entry))) block index ⌝ }
+fn free_at(entries: &[u32], block: usize, index: usize) -> bool
+    ensures { λ r. ⌜ r ≡ freeAt (now (entries .entry)) block index ⌝ }
 {
     let e = tables::entry_at(entries, block, index);
     e.state == FREE
 }
 
-pub fn table_empty(
-    frames: &[u64],
-    domains: &[u64],
-    stock: &[u64],
-    entries: &[u32],
-    block: usize,
-) -> bool
-    ensures { λ r. ⌜ r ≡ tableEmpty (lent (now (frames .entry)) (now (domains .entry)) (now (stock .entry)) (now (entries .entry))) block ⌝ }
+pub fn table_empty(entries: &[u32], block: usize) -> bool
+    ensures { λ r. ⌜ r ≡ tableEmpty (now (entries .entry)) block ⌝ }
 {
     let mut index = 0;
     while index < TABLE_ENTRIES {
-        if !free_at(frames, domains, stock, entries, block, index) {
+        if !free_at(entries, block, index) {
             return false;
         }
         index += 1;

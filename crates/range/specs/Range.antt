@@ -13,32 +13,34 @@ use Rattle.units.specs.declared.address.Hpa.{Hpa}
 use Rattle.stock.specs.Bits.{inUse, spareClear}
 use Rattle.ledger.specs.Codes.{NDA, TDR, TDCX, EPT, REG, TEARDOWN, RUNNABLE, FREE, PENDING-BLOCKED}
 use Rattle.ledger.specs.Tables.{Tables, frameAt, domainAt, pageAt, entryAt}
-use Rattle.ledger.specs.Sizes.{sizesOf, sizesOk}
+use Rattle.ledger.specs.Sizes.{bitsOf, bitOf, rootOf, sizesOf, sizesOk}
 use Rattle.ledger.specs.declared.sizes.Sizes.{Sizes}
 use Rattle.ledger.specs.declared.words.Domain.{Domain}
 use Rattle.range.specs.declared.FrameLimits.{FrameLimits}
 
--- owner, number and epoch each stay below this: "owner (the TDR's frame, for types 2 to 4) [..] for EPT its table number; for TDR its
+-- owner, number, epoch and size each stay below this: "owner (the TDR's frame, for types 2 to 4) [..] for EPT its table number; for TDR its
 -- domain record number", "only EPT and REG have epochs"; 1 where the type lacks the number, and no number is right for another type
-abbrev pub below : ℕ → ℕ → ℕ → FrameLimits
-below o n e = record { owner = o; number = n; epoch = e }
+-- (no type has another size than 0)
+abbrev pub below : ℕ → ℕ → ℕ → ℕ → FrameLimits
+below o n e s = record { owner = o; number = n; epoch = e; size = s }
 
 unfoldable pub frameLimits : Sizes → ℕ → FrameLimits
 frameLimits s kind =
-    iff (eqb kind NDA) (below 1 1 1) (
-    iff (eqb kind TDR) (below 1 (s .records) 1) (
-    iff (eqb kind TDCX) (below (s .frames) 1 1) (
-    iff (eqb kind EPT) (below (s .frames) (s .tables) (epochMost + 1)) (
-    iff (eqb kind REG) (below (s .frames) 1 (epochMost + 1))
-    (below 0 0 0)))))
+    iff (eqb kind NDA) (below 1 1 1 1) (
+    iff (eqb kind TDR) (below 1 (s .records) 1 1) (
+    iff (eqb kind TDCX) (below (s .frames) 1 1 1) (
+    iff (eqb kind EPT) (below (s .frames) (s .tables) (epochMost + 1) 1) (
+    iff (eqb kind REG) (below (s .frames) 1 (epochMost + 1) 1)
+    (below 0 0 0 0)))))
 
 unfoldable pub frameOk : Sizes → List ℕ → ℕ → Bool
 frameOk s fs n =
     given (frameAt fs (record { 0 = n })) λ f.
     given (frameLimits s (f .kind)) λ l.
     need (ltb (f .owner .0) (l .owner)) false (
-    need (ltb (f .number) (l .number)) false
-    (ltb (f .epoch) (l .epoch)))
+    need (ltb (f .number) (l .number)) false (
+    need (ltb (f .epoch) (l .epoch)) false
+    (ltb (f .size) (l .size))))
 
 unfoldable pub framesOk : Sizes → List ℕ → Bool
 framesOk s fs = allFrom (frameOk s fs) 0 (length fs)
@@ -68,8 +70,9 @@ domainOk frames d =
     need (leb (d .life) TEARDOWN) false (
     need (leb (d .op) RUNNABLE) false (
     need (leb (d .listed) controlPages) false (
-    need (leb (d .children) frames) false
-    (epochOk (d .epoch))))))
+    need (leb (d .children) frames) false (
+    need (epochOk (d .epoch)) false
+    (eqb (d .width) 0))))))
 
 unfoldable pub recordOk : ℕ → List ℕ → ℕ → Bool
 recordOk frames ds r =
@@ -77,22 +80,34 @@ recordOk frames ds r =
     need (domainOk frames d) false
     (pagesOk frames (d .listed) ds r)
 
--- a block in use is a table, or the root of a record, and then the record is in use too
-unfoldable pub blockOk : Sizes → List ℕ → List ℕ → List ℕ → ℕ → Bool
-blockOk s ds st es b =
-    need (inUse st b) true (
-    need (entriesOk (s .frames) es b) false (
-    iff (ltb b (s .tables)) true
-    (recordOk (s .frames) ds (b - s .tables))))
+-- "answer 13 doesn't look into unused ones": the entries of each table in use ..
+unfoldable pub tableOk : ℕ → List ℕ → List ℕ → ℕ → Bool
+tableOk frames st es b =
+    need (inUse st b) true
+    (entriesOk frames es b)
 
-unfoldable pub blocksOk : Sizes → List ℕ → List ℕ → List ℕ → Bool
-blocksOk s ds st es = allFrom (blockOk s ds st es) 0 (length es / tableEntries)
+unfoldable pub allTablesOk : Sizes → List ℕ → List ℕ → Bool
+allTablesOk s st es = allFrom (tableOk (s .frames) st es) 0 (s .tables)
+
+-- .. and of each record in use its numbers, and the entries of its root
+unfoldable pub rootedOk : ℕ → List ℕ → List ℕ → List ℕ → ℕ → Bool
+rootedOk frames ds st es r =
+    given (bitOf (length ds) (length es) r) λ bit.
+    need (inUse st bit) true (
+    need (recordOk frames ds r) false (
+    given (rootOf (length ds) (length es) r) λ root.
+    entriesOk frames es root))
+
+unfoldable pub allRecordsOk : Sizes → List ℕ → List ℕ → List ℕ → Bool
+allRecordsOk s ds st es = allFrom (rootedOk (s .frames) ds st es) 0 (s .records)
 
 -- all of answer 13 but a lent gauge's marks
 unfoldable pub lentOk : Hpa → Tables → Bool
 lentOk base t =
     need (sizesOk base (length (t .frames)) (length (t .domains)) (length (t .stock)) (length (t .entries))) false (
     given (sizesOf (length (t .frames)) (length (t .domains)) (length (t .entries))) λ s.
-    need (spareClear (t .stock) (length (t .entries) / tableEntries)) false (
-    need (framesOk s (t .frames)) false
-    (blocksOk s (t .domains) (t .stock) (t .entries))))
+    given (bitsOf (length (t .domains)) (length (t .entries))) λ bits.
+    need (spareClear (t .stock) bits) false (
+    need (framesOk s (t .frames)) false (
+    need (allTablesOk s (t .stock) (t .entries)) false
+    (allRecordsOk s (t .domains) (t .stock) (t .entries)))))

@@ -1,7 +1,7 @@
-// Answer 13: whether every stored number and code is in its range, in one pass over the frames and one over the blocks in use.
+// Answer 13: whether every stored number and code is in its range, in a pass each over the frames, the tables in use and the records in use.
 ghost use mathlib.Core.Path.{_≡_};
 ghost use Rattle.ledger.specs.Tables.{lent};
-ghost use Rattle.range.specs.Range.{below, frameLimits, frameOk, framesOk, entryOk, entriesOk, pageOk, pagesOk, domainOk, recordOk, blockOk, blocksOk, lentOk};
+ghost use Rattle.range.specs.Range.{below, frameLimits, frameOk, framesOk, entryOk, entriesOk, pageOk, pagesOk, domainOk, recordOk, tableOk, allTablesOk, rootedOk, allRecordsOk, lentOk};
 use ledger::codes::EPT;
 use ledger::codes::FREE;
 use ledger::codes::NDA;
@@ -28,15 +28,17 @@ pub struct FrameLimits {
     pub owner: u64,
     pub number: u64,
     pub epoch: u64,
+    pub size: u64,
 }
 
-fn below(owner: u64, number: u64, epoch: u64) -> FrameLimits
-    ensures { λ r. ⌜ r ≡ below owner number epoch ⌝ }
+fn below(owner: u64, number: u64, epoch: u64, size: u64) -> FrameLimits
+    ensures { λ r. ⌜ r ≡ below owner number epoch size ⌝ }
 {
     FrameLimits {
         owner,
         number,
         epoch,
+        size,
     }
 }
 
@@ -44,21 +46,21 @@ fn frame_limits(s: Sizes, kind: u64) -> FrameLimits
     ensures { λ r. ⌜ r ≡ frameLimits s kind ⌝ }
 {
     if kind == NDA {
-        return below(1, 1, 1);
+        return below(1, 1, 1, 1);
     }
     if kind == TDR {
-        return below(1, s.records as u64, 1);
+        return below(1, s.records as u64, 1, 1);
     }
     if kind == TDCX {
-        return below(s.frames as u64, 1, 1);
+        return below(s.frames as u64, 1, 1, 1);
     }
     if kind == EPT {
-        return below(s.frames as u64, s.tables as u64, EPOCH_MOST + 1);
+        return below(s.frames as u64, s.tables as u64, EPOCH_MOST + 1, 1);
     }
     if kind == REG {
-        return below(s.frames as u64, 1, EPOCH_MOST + 1);
+        return below(s.frames as u64, 1, EPOCH_MOST + 1, 1);
     }
-    below(0, 0, 0)
+    below(0, 0, 0, 0)
 }
 
 fn frame_ok(s: Sizes, frames: &[u64], frame: Pfn) -> bool
@@ -73,7 +75,10 @@ fn frame_ok(s: Sizes, frames: &[u64], frame: Pfn) -> bool
     if f.number >= l.number {
         return false;
     }
-    f.epoch < l.epoch
+    if f.epoch >= l.epoch {
+        return false;
+    }
+    f.size < l.size
 }
 
 fn all_frames_ok(s: Sizes, frames: &[u64]) -> bool
@@ -158,7 +163,10 @@ fn domain_ok(frames: usize, d: Domain) -> bool
     if d.children > (frames as u64) {
         return false;
     }
-    limits::epoch_ok(d.epoch)
+    if !limits::epoch_ok(d.epoch) {
+        return false;
+    }
+    d.width == 0
 }
 
 fn record_ok(frames: usize, domains: &[u64], rec: usize) -> bool
@@ -171,32 +179,53 @@ fn record_ok(frames: usize, domains: &[u64], rec: usize) -> bool
     pages_ok(frames, d.listed as usize, domains, rec)
 }
 
-// An unused block isn't looked into. One in use is a table, or a record's root, and then its record is looked at too.
-fn block_ok(s: Sizes, domains: &[u64], stock: &[u64], entries: &[u32], block: usize) -> bool
-    ensures { λ r. ⌜ r ≡ blockOk s (now (domains .entry)) (now (stock .entry)) (now (entries .entry)) block ⌝ }
+// An unused table isn't looked into.
+fn table_ok(frames: usize, stock: &[u64], entries: &[u32], table: usize) -> bool
+    ensures { λ r. ⌜ r ≡ tableOk frames (now (stock .entry)) (now (entries .entry)) table ⌝ }
 {
-    if !bits::in_use(stock, block) {
+    if !bits::in_use(stock, table) {
         return true;
     }
-    if !entries_ok(s.frames, entries, block) {
-        return false;
-    }
-    let tables = s.tables;
-    if block < tables {
-        return true;
-    }
-    record_ok(s.frames, domains, block - tables)
+    entries_ok(frames, entries, table)
 }
 
-fn all_blocks_ok(s: Sizes, domains: &[u64], stock: &[u64], entries: &[u32]) -> bool
-    ensures { λ r. ⌜ r ≡ blocksOk s (now (domains .entry)) (now (stock .entry)) (now (entries .entry)) ⌝ }
+fn all_tables_ok(s: Sizes, stock: &[u64], entries: &[u32]) -> bool
+    ensures { λ r. ⌜ r ≡ allTablesOk s (now (stock .entry)) (now (entries .entry)) ⌝ }
 {
-    let mut block = 0;
-    while block < entries.len() / TABLE_ENTRIES {
-        if !block_ok(s, domains, stock, entries, block) {
+    let mut table = 0;
+    while table < s.tables {
+        if !table_ok(s.frames, stock, entries, table) {
             return false;
         }
-        block += 1;
+        table += 1;
+    }
+    true
+}
+
+// Nor is an unused record, nor its root.
+fn rooted_ok(frames: usize, domains: &[u64], stock: &[u64], entries: &[u32], rec: usize) -> bool
+    ensures { λ r. ⌜ r ≡ rootedOk frames (now (domains .entry)) (now (stock .entry)) (now (entries .entry)) rec ⌝ }
+{
+    let bit = sizes::bit_of(domains.len(), entries.len(), rec);
+    if !bits::in_use(stock, bit) {
+        return true;
+    }
+    if !record_ok(frames, domains, rec) {
+        return false;
+    }
+    let root = sizes::root_of(domains.len(), entries.len(), rec);
+    entries_ok(frames, entries, root)
+}
+
+fn all_records_ok(s: Sizes, domains: &[u64], stock: &[u64], entries: &[u32]) -> bool
+    ensures { λ r. ⌜ r ≡ allRecordsOk s (now (domains .entry)) (now (stock .entry)) (now (entries .entry)) ⌝ }
+{
+    let mut rec = 0;
+    while rec < s.records {
+        if !rooted_ok(s.frames, domains, stock, entries, rec) {
+            return false;
+        }
+        rec += 1;
     }
     true
 }
@@ -215,11 +244,14 @@ pub fn lent_ok(base: Hpa, frames: &[u64], domains: &[u64], stock: &[u64], entrie
         return false;
     }
     let s = sizes::sizes_of(frames.len(), domains.len(), entries.len());
-    if !bits::spare_clear(stock, entries.len() / TABLE_ENTRIES) {
+    if !bits::spare_clear(stock, sizes::bits_of(domains.len(), entries.len())) {
         return false;
     }
     if !all_frames_ok(s, frames) {
         return false;
     }
-    all_blocks_ok(s, domains, stock, entries)
+    if !all_tables_ok(s, stock, entries) {
+        return false;
+    }
+    all_records_ok(s, domains, stock, entries)
 }

@@ -68,9 +68,9 @@ fn replay(
 fn start(frames: &mut [u64], domains: &mut [u64], stock: &mut [u64], entries: &mut [u32]) -> Gauge {
     let base = Hpa(BASE_BYTES);
     let g = gauge::fresh_gauge();
-    let fresh = entry::entered(base, frames, domains, stock, entries, g, Ask::Reset);
+    let fresh = asks::answer_ask(base, frames, domains, stock, entries, g, Ask::Reset);
     let marks = Ask::Marks(0.75, 0.5);
-    let set = entry::entered(base, frames, domains, stock, entries, fresh.gauge, marks);
+    let set = asks::answer_ask(base, frames, domains, stock, entries, fresh.gauge, marks);
     set.gauge
 }
 

@@ -36,7 +36,7 @@ pub fn reply(
             Replied { gauge: g, wrote }
         }
         Line::Call(c) => {
-            let r = entry::entered(base, frames, domains, stock, entries, g, Ask::Host(c));
+            let r = asks::answer_ask(base, frames, domains, stock, entries, g, Ask::Host(c));
             let a = r.answer;
             let gauge = r.gauge;
             let wrote = answers::write_answer(out, number, a);

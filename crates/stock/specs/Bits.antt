@@ -1,4 +1,4 @@
--- "Each says whether it is in use": the bit of block b is bit b % 64 of word b / 64.
+-- "Each says whether it is in use": bit b stands in word b / 64, as bit b % 64 of it.
 use Prim.Native.Nat.{ℕ, zero, suc, _+_, _-_, _/_, _%_, _^_}
 use mathlib.Core.Bool.{Bool}
 use mathlib.Core.List.{List}
@@ -8,21 +8,25 @@ use Rattle.rules.specs.Rule.{iff}
 use Rattle.stock.specs.declared.bits.Lowest.{Lowest}
 use Rattle.stock.specs.declared.bits.Lowest.the-variants.{At, Full}
 
+-- bits of a word
+abbrev pub wordBits : ℕ
+wordBits = 64
+
 unfoldable pub wordOf : List ℕ → ℕ → ℕ
-wordOf ws b = getD ws (b / 64) 0
+wordOf ws b = getD ws (b / wordBits) 0
 
 unfoldable pub bitSet : ℕ → ℕ → Bool
 bitSet w k = eqb (w / 2 ^ k % 2) 1
 
 unfoldable pub inUse : List ℕ → ℕ → Bool
-inUse ws b = bitSet (wordOf ws b) (b % 64)
+inUse ws b = bitSet (wordOf ws b) (b % wordBits)
 
 -- the word w with bit k on or off, and its other bits as they are
 unfoldable pub withBit : ℕ → ℕ → Bool → ℕ
 withBit w k on = iff (bitSet w k) (iff on w (w - 2 ^ k)) (iff on (w + 2 ^ k) w)
 
 unfoldable pub setUse : List ℕ → ℕ → Bool → List ℕ
-setUse ws b on = set ws (b / 64) (withBit (wordOf ws b) (b % 64) on)
+setUse ws b on = set ws (b / wordBits) (withBit (wordOf ws b) (b % wordBits) on)
 
 -- "A record or a table is taken lowest number first": the lowest of the k blocks from b on that isn't in use
 module _ (ws : List ℕ) where
@@ -40,4 +44,4 @@ onLowest (At b) z k = k b
 
 -- the bits of blocks from n on are zero, in the word of block n. (Where n fills its words that is one past them, and reads 0.)
 unfoldable pub spareClear : List ℕ → ℕ → Bool
-spareClear ws n = ltb (wordOf ws n) (2 ^ (n % 64))
+spareClear ws n = ltb (wordOf ws n) (2 ^ (n % wordBits))

@@ -1,7 +1,7 @@
 // One in-use bit a block, 64 to a word. Outside the lent words a bit reads as 0, unused, and a write there does nothing.
 ghost use mathlib.Core.Path.{_≡_};
 ghost use Prim.Native.Nat.{_%_};
-ghost use Rattle.stock.specs.Bits.{wordOf, inUse, withBit, setUse, lowestUnused, spareClear};
+ghost use Rattle.stock.specs.Bits.{wordBits, wordOf, inUse, withBit, setUse, lowestUnused, spareClear};
 
 pub const WORD_BITS: usize = 64;
 
@@ -31,7 +31,7 @@ pub fn in_use(stock: &[u64], block: usize) -> bool
 
 // The word with a block's bit on or off, whichever it was.
 fn with_bit(word: u64, block: usize, on: bool) -> u64
-    ensures { λ r. ⌜ r ≡ withBit word (block % 64) on ⌝ }
+    ensures { λ r. ⌜ r ≡ withBit word (block % wordBits) on ⌝ }
 {
     let bit = block % WORD_BITS;
     if (word >> bit) % 2 == 1 {

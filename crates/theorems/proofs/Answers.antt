@@ -20,39 +20,39 @@ use Rattle.ledger.specs.Tables.{Tables}
 use Rattle.calls.specs.declared.Call.{Call}
 use Rattle.calls.specs.declared.Call.the-variants as call
 use Rattle.plan.specs.Changes.{gain, lose}
-use Rattle.domains.specs.Domains.{keyconfigPlan, initPlan, finalizePlan, trackPlan, flushdonePlan, keyfreePlan, enlistAt, addcxPlan, newRecord, createAt, createPlan}
-use Rattle.adds.specs.Adds.{septAt, pageAt, septaddPlan, pagePlan}
+use Rattle.domains.specs.Domains.{lifePlan, opPlan, trackPlan, enlistAt, addcxPlan, newRecord, createAt, createPlan}
+use Rattle.adds.specs.Adds.{freeFor, septAt, pageAt, septaddPlan, pagePlan}
 use Rattle.trees.specs.Trees.{blockAt, blockPlan, unblockAt, unblockPlan, pageremoveAt, pageremovePlan, septremoveAt, septremovePlan, readentryAt, readentryPlan}
 use Rattle.pages.specs.Pages.{reclaimTdr, reclaimChild, reclaimAt, reclaimPlan, readpagePlan}
 use Rattle.host.specs.Calls.{Outcome, outcome, planOf, settled, ruleOf, callOf}
 use Rattle.theorems.specs.Checks.{kindIs, window, ofTdr, ofChild, reads, checksOf, allChecks}
-use Rattle.theorems.specs.Order.{Reason, tables, marks, operand, Check, check, firstNo, inOrder, Fails, here, later, Passes, none, one}
-use Rattle.theorems.proofs.Firsts.{numberP, Numbers, window-first, spot-first, domain-first, owner-first, built-first, reach-first, walk-first, stock-first, child-first, needed, unless, either, both, named-is, done, page-read, entry-read}
+use Rattle.theorems.specs.Order.{Reason, tables, marks, operand, emptied, frame, Check, check, firstNo, inOrder, Fails, here, later, Passes, none, one}
+use Rattle.theorems.proofs.Firsts.{numberP, Numbers, window-first, none-besides, frame-besides, parties-first, built-first, spot-first, owner-first, offered-first, reach-first, tracked-first, walk-first, stock-first, child-first, needed, unless, either, both, named-is, done, page-read, entry-read}
 
 -- a call's plan answers with the number of its first check that fails
 pub plan-first : (base : Hpa) (t : Tables) (c : Call) → Numbers (reads c) (planOf base t c) (checksOf base t c)
-unfolding planOf reads checksOf createPlan createAt newRecord keyconfigPlan addcxPlan enlistAt gain initPlan septaddPlan septAt pagePlan pageAt finalizePlan blockPlan blockAt trackPlan unblockPlan unblockAt pageremovePlan pageremoveAt lose septremovePlan septremoveAt flushdonePlan keyfreePlan readpagePlan readentryPlan readentryAt reclaimPlan reclaimAt reclaimTdr reclaimChild
-plan-first base t (call.Create f k) = window-first _ _ _ _ _ (needed _ _ _ (named-is _ _ (needed _ _ _ (named-is _ _ (needed _ _ _ (stock-first _ _ λ b. named-is _ _ (done _)))))))
-plan-first base t (call.KeyConfig d) = window-first _ _ _ _ _ (domain-first _ _ _ (needed _ _ _ (named-is _ _ (done _))))
-plan-first base t (call.AddCx d f) = window-first _ _ _ _ _ (window-first _ _ _ _ _ (domain-first _ _ _ (needed _ _ _ (needed _ _ _ (named-is _ _ (needed _ _ _ (needed _ _ _ (named-is _ _ (done _)))))))))
-plan-first base t (call.Init d) = window-first _ _ _ _ _ (built-first _ _ _ _ _ (named-is _ _ (done _)))
-plan-first base t (call.SeptAdd d gpa level f) = spot-first _ _ _ _ _ _ _ (window-first _ _ _ _ _ (built-first _ _ _ _ _ (named-is _ _ (needed _ _ _ (reach-first _ _ _ _ _ _ _ λ b i. named-is _ _ (stock-first _ _ λ table. needed _ _ _ (named-is _ _ (done _))))))))
-plan-first base t (call.PageAdd d gpa f) = spot-first _ _ _ _ _ _ _ (window-first _ _ _ _ _ (built-first _ _ _ _ _ (named-is _ _ (needed _ _ _ (reach-first _ _ _ _ _ _ _ λ b i. needed _ _ _ (named-is _ _ (done _)))))))
-plan-first base t (call.Finalize d) = window-first _ _ _ _ _ (built-first _ _ _ _ _ (named-is _ _ (done _)))
-plan-first base t (call.PageAug d gpa f) = spot-first _ _ _ _ _ _ _ (window-first _ _ _ _ _ (built-first _ _ _ _ _ (named-is _ _ (needed _ _ _ (reach-first _ _ _ _ _ _ _ λ b i. needed _ _ _ (named-is _ _ (done _)))))))
-plan-first base t (call.Block d gpa level) = spot-first _ _ _ _ _ _ _ (built-first _ _ _ _ _ (reach-first _ _ _ _ _ _ _ λ b i. needed _ _ _ (named-is _ _ (named-is _ _ (named-is _ _ (done _))))))
-plan-first base t (call.Track d) = window-first _ _ _ _ _ (built-first _ _ _ _ _ (needed _ _ _ (named-is _ _ (done _))))
-plan-first base t (call.Unblock d gpa level) = spot-first _ _ _ _ _ _ _ (built-first _ _ _ _ _ (reach-first _ _ _ _ _ _ _ λ b i. needed _ _ _ (needed _ _ _ (named-is _ _ (done _)))))
-plan-first base t (call.PageRemove d gpa) = spot-first _ _ _ _ _ _ _ (built-first _ _ _ _ _ (reach-first _ _ _ _ _ _ _ λ b i. needed _ _ _ (needed _ _ _ (unless _ _ _ (named-is _ _ (done _))))))
-plan-first base t (call.SeptRemove d gpa level) = spot-first _ _ _ _ _ _ _ (built-first _ _ _ _ _ (reach-first _ _ _ _ _ _ _ λ b i. needed _ _ _ (needed _ _ _ (named-is _ _ (needed _ _ _ (unless _ _ _ (named-is _ _ (done _))))))))
-plan-first base t (call.FlushDone d) = window-first _ _ _ _ _ (domain-first _ _ _ (needed _ _ _ (named-is _ _ (done _))))
-plan-first base t (call.KeyFree d) = window-first _ _ _ _ _ (domain-first _ _ _ (needed _ _ _ (named-is _ _ (done _))))
+unfolding planOf reads checksOf createPlan createAt newRecord lifePlan opPlan addcxPlan enlistAt gain septaddPlan freeFor septAt pagePlan pageAt blockPlan blockAt trackPlan unblockPlan unblockAt pageremovePlan pageremoveAt lose septremovePlan septremoveAt readpagePlan readentryPlan readentryAt reclaimPlan reclaimAt reclaimTdr reclaimChild
+plan-first base t (call.Create f k) = window-first _ _ _ _ _ (needed _ _ _ (needed _ _ _ (named-is _ _ (named-is _ _ (needed _ _ _ (stock-first _ _ λ b. named-is _ _ (named-is _ _ (done _))))))))
+plan-first base t (call.KeyConfig d) = parties-first _ _ _ _ none-besides (needed _ _ _ (named-is _ _ (done _)))
+plan-first base t (call.AddCx d f) = named-is _ _ (parties-first _ _ _ _ (frame-besides _ _ _ _) (needed _ _ _ (needed _ _ _ (needed _ _ _ (needed _ _ _ (named-is _ _ (done _)))))))
+plan-first base t (call.Init d) = built-first _ _ _ _ _ _ none-besides (named-is _ _ (done _))
+plan-first base t (call.SeptAdd d gpa level f) = named-is _ _ (spot-first _ _ _ _ _ _ _ _ _ (frame-besides _ _ _ _) (offered-first _ _ _ _ (reach-first _ _ _ _ _ _ _ λ b i. named-is _ _ (stock-first _ _ λ table. needed _ _ _ (named-is _ _ (done _))))))
+plan-first base t (call.PageAdd d gpa f) = named-is _ _ (spot-first _ _ _ _ _ _ _ _ _ (frame-besides _ _ _ _) (offered-first _ _ _ _ (reach-first _ _ _ _ _ _ _ λ b i. needed _ _ _ (named-is _ _ (done _)))))
+plan-first base t (call.Finalize d) = built-first _ _ _ _ _ _ none-besides (named-is _ _ (done _))
+plan-first base t (call.PageAug d gpa f) = named-is _ _ (spot-first _ _ _ _ _ _ _ _ _ (frame-besides _ _ _ _) (offered-first _ _ _ _ (reach-first _ _ _ _ _ _ _ λ b i. needed _ _ _ (named-is _ _ (done _)))))
+plan-first base t (call.Block d gpa level) = spot-first _ _ _ _ _ _ _ _ _ none-besides (reach-first _ _ _ _ _ _ _ λ b i. needed _ _ _ (named-is _ _ (named-is _ _ (named-is _ _ (done _)))))
+plan-first base t (call.Track d) = built-first _ _ _ _ _ _ none-besides (needed _ _ _ (named-is _ _ (done _)))
+plan-first base t (call.Unblock d gpa level) = spot-first _ _ _ _ _ _ _ _ _ none-besides (tracked-first frame refl _ _ _ _ _ _ _ λ b i. named-is _ _ (done _))
+plan-first base t (call.PageRemove d gpa) = spot-first _ _ _ _ _ _ _ _ _ none-besides (tracked-first frame refl _ _ _ _ _ _ _ λ b i. unless _ _ _ (named-is _ _ (done _)))
+plan-first base t (call.SeptRemove d gpa level) = spot-first _ _ _ _ _ _ _ _ _ none-besides (tracked-first emptied refl _ _ _ _ _ _ _ λ b i. named-is _ _ (needed _ _ _ (unless _ _ _ (named-is _ _ (done _)))))
+plan-first base t (call.FlushDone d) = parties-first _ _ _ _ none-besides (needed _ _ _ (named-is _ _ (done _)))
+plan-first base t (call.KeyFree d) = parties-first _ _ _ _ none-besides (needed _ _ _ (named-is _ _ (done _)))
 plan-first base t (call.Reclaim f) =
     window-first _ _ _ _ _ (named-is _ _ (unless _ _ _ (either _
     (owner-first _ _ _ (needed _ _ _ (needed _ _ _ (done _))))
     (owner-first _ _ _ (needed _ _ _ (child-first _ _ _ (unless _ _ _ (named-is _ _ (done _))) (unless _ _ _ (named-is _ _ (done _)))))))))
 plan-first base t (call.ReadPage f) = window-first _ _ _ _ _ (named-is _ _ (both _ (page-read _ _) (named-is _ _ (page-read _ _))))
-plan-first base t (call.ReadEntry d gpa level) = spot-first _ _ _ _ _ _ _ (built-first _ _ _ _ _ (walk-first _ _ λ b i. named-is _ _ (both _ (entry-read _ _ _) (named-is _ _ (entry-read _ _ _)))))
+plan-first base t (call.ReadEntry d gpa level) = spot-first _ _ _ _ _ _ _ _ _ none-besides (walk-first _ _ λ b i. named-is _ _ (both _ (entry-read _ _ _) (named-is _ _ (entry-read _ _ _))))
 
 carried-number : (g : Gauge) (t : Tables) (p : Plan) → numberOf (settled g (carried t p) .answer) ≡ numberP p
 unfolding settled carried numberP valuesOf

@@ -1,10 +1,10 @@
 -- One lemma for each way in which a rule goes on: the number of a rule is that of the first check that fails.
-use mathlib.Core.Path.{_≡_, refl}
+use mathlib.Core.Path.{_≡_, refl, sym}
 use mathlib.Core.Bool.{Bool, true, false, not}
 use mathlib.Core.List.{List, [], _∷_}
 use mathlib.Core.Logic.{_⊎_, inl, inr}
 use Prim.Native.Nat.{ℕ}
-use lib.Dec.{eqb}
+use lib.ListN.{length}
 use Rattle.rules.specs.Rule.{iff, given}
 use Rattle.units.specs.Limits.{between}
 use Rattle.units.specs.Address.{frameOf}
@@ -18,7 +18,7 @@ use Rattle.stock.specs.Bits.{inUse, onLowest}
 use Rattle.stock.specs.declared.bits.Lowest.{Lowest}
 use Rattle.stock.specs.declared.bits.Lowest.the-variants as lowest
 use Rattle.ledger.specs.Codes.{TDR}
-use Rattle.ledger.specs.Tables.{Tables, frameAt, entryAt}
+use Rattle.ledger.specs.Tables.{Tables, entryAt}
 use Rattle.ledger.specs.declared.words.Entry.{Entry}
 use Rattle.walk.specs.Walk.{onWalk}
 use Rattle.walk.specs.declared.Walk.{Walk}
@@ -26,19 +26,23 @@ use Rattle.walk.specs.declared.Walk.the-variants as walk
 use Rattle.calls.specs.Answers.{valuesOf, numberOf}
 use Rattle.calls.specs.declared.Answer.{Answer}
 use Rattle.calls.specs.declared.Answer.the-variants as answer
-use Rattle.plan.specs.Lookup.{onPlace, onOperand, onLookup, frameOperand, spotOperands, domainFor, builtFor}
-use Rattle.plan.specs.Entries.{walkOf, entryFor, onReach}
+use Rattle.plan.specs.Lookup.{onPlace, onOperand, onLookup, onParties, frameOperand, noFrame, domainFor, partiesFor, builtFor, spotOperand, spotFor}
+use Rattle.plan.specs.Entries.{walkOf, entryFor, onReach, isTracked}
 use Rattle.plan.specs.Changes.{refuse}
+use Rattle.plan.specs.declared.lookup.Operand.{Operand}
 use Rattle.plan.specs.declared.lookup.Operand.the-variants.{Frame, Bad}
 use Rattle.plan.specs.declared.lookup.Found.{Found}
-use Rattle.plan.specs.declared.lookup.Lookup.{Lookup}
 use Rattle.plan.specs.declared.lookup.Lookup.the-variants.{Is, Not}
+use Rattle.plan.specs.declared.lookup.Parties.{Parties}
+use Rattle.plan.specs.declared.lookup.Parties.the-variants as parties
+use Rattle.plan.specs.declared.entry.Reach.{Reach}
 use Rattle.plan.specs.declared.entry.Reach.the-variants as reach
 use Rattle.plan.specs.declared.edit.Edit.{Edit}
 use Rattle.plan.specs.declared.edit.Plan.{Plan}
 use Rattle.plan.specs.declared.edit.Plan.the-variants.{Say, Do}
-use Rattle.theorems.specs.Order.{Reason, operand, domain, record′, lifecycle, pages, opState, entry, stock, count, number, Check, check, firstNo}
-use Rattle.theorems.specs.Checks.{inWindow, named, domainOf, kindIs, goesOn, follows, arrived, isDomain, built, walked}
+use Rattle.trees.specs.Trees.{trackedFor}
+use Rattle.theorems.specs.Order.{Reason, operand, domain, record′, lifecycle, pages, opState, offered, entry, untracked, frame, stock, count, number, Check, check, firstNo}
+use Rattle.theorems.specs.Checks.{inWindow, named, domainOf, kindIs, goesOn, follows, arrived, spot, isDomain, built, walked, reached, own}
 
 -- the number that a plan answers
 unfoldable pub numberP : Plan → ℕ
@@ -123,34 +127,58 @@ pub window-first : {r : Bool} {cs : List Check} (base : Hpa) (frames : ℕ) (hpa
 unfolding frameOperand inWindow named
 window-first base frames hpa k next e = by-place (frameOf base frames hpa) k next e
 
-by-spot : {r : Bool} {cs : List Check} (at : Place) (b c : Bool) (next : Pfn → Plan)
-    → Numbers r (next (onPlace at (record { 0 = 0 }) λ n. n)) cs
-    → Numbers r (onOperand (onOperand (onPlace at (Bad 0) Frame) Bad λ n. iff b (iff c (Frame n) (Bad 2)) (Bad 1)) (refuse 1) next)
-    (check operand (onPlace at false λ n. true) ∷ check operand b ∷ check operand c ∷ cs)
-unfolding onPlace onOperand numberP firstNo iff valuesOf TellsP Tells
-by-spot (place.Outside) b c next e = record { is = refl; tells = tt }
-by-spot (place.At n) false c next e = record { is = refl; tells = tt }
-by-spot (place.At n) true false next e = record { is = refl; tells = tt }
-by-spot (place.At n) true true next e = record { is = e .is; tells = e .tells }
+-- the operands besides D, before D is looked for: o names the frame m where none of the checks `ops` fails
+pub record Besides (o : Operand) (m : Pfn) (ops : List Check → List Check) : Type 0 where
+  pub then : {r : Bool} {cs : List Check} (next : Pfn → Parties) (k : Found → Pfn → Plan)
+      → Numbers r (onParties (next m) Say k) cs
+      → Numbers r (onParties (onOperand o (λ j. parties.Not (answer.No 1 j)) next) Say k) (ops cs)
 
-pub spot-first : {r : Bool} {cs : List Check} (base : Hpa) (frames : ℕ) (d : Hpa) (gpa : Gpa) (level least : ℕ) (next : Pfn → Plan)
-    → Numbers r (next (named base frames d)) cs
-    → Numbers r (onOperand (spotOperands base frames d gpa level least) (refuse 1) next)
-    (check operand (inWindow base frames d) ∷ check operand (gpaFits gpa level) ∷ check operand (levelOk least level) ∷ cs)
-unfolding spotOperands frameOperand inWindow named
-spot-first base frames d gpa level least next e = by-spot (frameOf base frames d) (gpaFits gpa level) (levelOk least level) next e
+pub none-besides : Besides noFrame (record { 0 = 0 }) (λ cs. cs)
+unfolding onOperand
+none-besides = record { then = λ next k e. e }
+
+by-party : {r : Bool} {cs : List Check} (at : Place) (j : ℕ) (next : Pfn → Parties) (k : Found → Pfn → Plan)
+    → Numbers r (onParties (next (onPlace at (record { 0 = 0 }) λ n. n)) Say k) cs
+    → Numbers r (onParties (onOperand (onPlace at (Bad j) Frame) (λ i. parties.Not (answer.No 1 i)) next) Say k) (check operand (onPlace at false λ n. true) ∷ cs)
+unfolding onPlace onOperand onParties numberP firstNo iff valuesOf TellsP Tells
+by-party (place.At n) j next k e = record { is = e .is; tells = e .tells }
+by-party (place.Outside) j next k e = record { is = refl; tells = tt }
+
+pub frame-besides : (base : Hpa) (frames : ℕ) (hpa : Hpa) (j : ℕ)
+    → Besides (frameOperand base frames hpa j) (named base frames hpa) (λ cs. check operand (inWindow base frames hpa) ∷ cs)
+unfolding frameOperand inWindow named
+frame-besides base frames hpa j = record { then = by-party (frameOf base frames hpa) j }
+
+by-spot : {r : Bool} {cs : List Check} (b c : Bool) (o : Operand) (next : Pfn → Parties) (k : Found → Pfn → Plan)
+    → Numbers r (onParties (onOperand o (λ j. parties.Not (answer.No 1 j)) next) Say k) cs
+    → Numbers r (onParties (onOperand (iff b (iff c o (Bad 2)) (Bad 1)) (λ j. parties.Not (answer.No 1 j)) next) Say k) (check operand b ∷ check operand c ∷ cs)
+unfolding onOperand onParties numberP firstNo iff valuesOf TellsP Tells
+by-spot false c o next k e = record { is = refl; tells = tt }
+by-spot true false o next k e = record { is = refl; tells = tt }
+by-spot true true o next k e = record { is = e .is; tells = e .tells }
+
+spot-besides : {o : Operand} {m : Pfn} {ops : List Check → List Check} (gpa : Gpa) (level lowest : ℕ) → Besides o m ops
+    → Besides (spotOperand gpa level lowest o) m (λ cs. check operand (gpaFits gpa level) ∷ check operand (levelOk lowest level) ∷ ops cs)
+unfolding spotOperand
+spot-besides {o} gpa level lowest b = record { then = λ next k e. by-spot (gpaFits gpa level) (levelOk lowest level) o next k (b .then next k e) }
 
 -- ---- the domain
-by-domain : {r : Bool} {cs : List Check} (a b : Bool) (x : Found) (k : Found → Plan) → Numbers r (k x) cs
-    → Numbers r (onLookup (iff a (iff b (Is x) (Not (answer.No 14 0))) (Not (answer.No 2 0))) Say k) (check domain a ∷ check record′ b ∷ cs)
-unfolding onLookup numberP firstNo iff valuesOf TellsP Tells
-by-domain false b x k e = record { is = refl; tells = tt }
-by-domain true false x k e = record { is = refl; tells = tt }
-by-domain true true x k e = record { is = e .is; tells = e .tells }
+by-domain : {r : Bool} {cs : List Check} (a b : Bool) (x : Found) (m : Pfn) (k : Found → Pfn → Plan) → Numbers r (k x m) cs
+    → Numbers r (onParties (onLookup (iff a (iff b (Is x) (Not (answer.No 14 0))) (Not (answer.No 2 0))) parties.Not λ x. parties.Are x m) Say k) (check domain a ∷ check record′ b ∷ cs)
+unfolding onLookup onParties numberP firstNo iff valuesOf TellsP Tells
+by-domain false b x m k e = record { is = refl; tells = tt }
+by-domain true false x m k e = record { is = refl; tells = tt }
+by-domain true true x m k e = record { is = e .is; tells = e .tells }
 
-pub domain-first : {r : Bool} {cs : List Check} (t : Tables) (n : Pfn) (k : Found → Plan) → Numbers r (k (domainOf t n)) cs → Numbers r (onLookup (domainFor t n) Say k) (isDomain t n cs)
-unfolding domainFor given
-domain-first t n k e = by-domain (eqb (frameAt (t .frames) n .kind) TDR) (inUse (t .stock) (domainOf t n .root)) (domainOf t n) k e
+pub parties-first : {r : Bool} {cs : List Check} {o : Operand} {m : Pfn} {ops : List Check → List Check} (base : Hpa) (t : Tables) (d : Hpa) (k : Found → Pfn → Plan)
+    → Besides o m ops → Numbers r (k (domainOf t (named base (length (t .frames)) d)) m) cs
+    → Numbers r (onParties (partiesFor base t d o) Say k)
+    (check operand (inWindow base (length (t .frames)) d) ∷ ops (isDomain t (named base (length (t .frames)) d) cs))
+unfolding partiesFor domainFor given
+parties-first {m = m} base t d k b e =
+    let n = named base (length (t .frames)) d in
+    frame-besides base (length (t .frames)) d 0 .then _ k
+    (b .then _ k (by-domain (kindIs t n TDR) (inUse (t .stock) (domainOf t n .bit)) (domainOf t n) m k e))
 
 -- a domain that reclaim looks for: 14 whatever is wrong
 by-owner : {r : Bool} {cs : List Check} (a b : Bool) (x : Found) (k : Found → Plan) → Numbers r (k x) cs
@@ -161,32 +189,40 @@ by-owner true false x k e = record { is = refl; tells = tt }
 by-owner true true x k e = record { is = e .is; tells = e .tells }
 
 pub owner-first : {r : Bool} {cs : List Check} (t : Tables) (n : Pfn) (k : Found → Plan) → Numbers r (k (domainOf t n)) cs
-    → Numbers r (onLookup (domainFor t n) (λ a. refuse 14 0) k) (check record′ (kindIs t n TDR) ∷ check record′ (inUse (t .stock) (domainOf t n .root)) ∷ cs)
+    → Numbers r (onLookup (domainFor t n) (λ a. refuse 14 0) k) (check record′ (kindIs t n TDR) ∷ check record′ (inUse (t .stock) (domainOf t n .bit)) ∷ cs)
 unfolding domainFor given
-owner-first t n k e = by-owner (kindIs t n TDR) (inUse (t .stock) (domainOf t n .root)) (domainOf t n) k e
+owner-first t n k e = by-owner (kindIs t n TDR) (inUse (t .stock) (domainOf t n .bit)) (domainOf t n) k e
 
-by-state : {r : Bool} {cs : List Check} (c d f : Bool) (x : Found) (k : Found → Plan) → Numbers r (k x) cs
-    → Numbers r (onLookup (iff c (iff d (iff f (Is x) (Not (answer.No 5 0))) (Not (answer.No 4 0))) (Not (answer.No 3 0))) Say k)
+by-state : {r : Bool} {cs : List Check} (c d f : Bool) (x : Found) (m : Pfn) (k : Found → Pfn → Plan) → Numbers r (k x m) cs
+    → Numbers r (onParties (iff c (iff d (iff f (parties.Are x m) (parties.Not (answer.No 5 0))) (parties.Not (answer.No 4 0))) (parties.Not (answer.No 3 0))) Say k)
     (check lifecycle c ∷ check pages d ∷ check opState f ∷ cs)
-unfolding onLookup numberP firstNo iff valuesOf TellsP Tells
-by-state false d f x k e = record { is = refl; tells = tt }
-by-state true false f x k e = record { is = refl; tells = tt }
-by-state true true false x k e = record { is = refl; tells = tt }
-by-state true true true x k e = record { is = e .is; tells = e .tells }
+unfolding onParties numberP firstNo iff valuesOf TellsP Tells
+by-state false d f x m k e = record { is = refl; tells = tt }
+by-state true false f x m k e = record { is = refl; tells = tt }
+by-state true true false x m k e = record { is = refl; tells = tt }
+by-state true true true x m k e = record { is = e .is; tells = e .tells }
 
-by-built : {r : Bool} {cs : List Check} (a b : Bool) (x : Found) (next : Found → Lookup) (k : Found → Plan) → Numbers r (onLookup (next x) Say k) cs
-    → Numbers r (onLookup (onLookup (iff a (iff b (Is x) (Not (answer.No 14 0))) (Not (answer.No 2 0))) Not next) Say k) (check domain a ∷ check record′ b ∷ cs)
-unfolding onLookup numberP firstNo iff valuesOf TellsP Tells
-by-built false b x next k e = record { is = refl; tells = tt }
-by-built true false x next k e = record { is = refl; tells = tt }
-by-built true true x next k e = record { is = e .is; tells = e .tells }
+-- a lookup that goes on, and what stands behind it
+after : {r : Bool} {cs : List Check} (p : Parties) (next : Found → Pfn → Parties) (k : Found → Pfn → Plan)
+    → Numbers r (onParties p Say λ x m. onParties (next x m) Say k) cs → Numbers r (onParties (onParties p parties.Not next) Say k) cs
+unfolding onParties
+after (parties.Not a) next k e = e
+after (parties.Are x m) next k e = e
 
-pub built-first : {r : Bool} {cs : List Check} (t : Tables) (n : Pfn) (least most : ℕ) (k : Found → Plan) → Numbers r (k (domainOf t n)) cs
-    → Numbers r (onLookup (builtFor t n least most) Say k) (built t n least most cs)
-unfolding builtFor domainFor given
-built-first t n least most k e =
-    by-built (kindIs t n TDR) (inUse (t .stock) (domainOf t n .root)) (domainOf t n) _ k
-    (by-state _ _ _ (domainOf t n) k e)
+pub built-first : {r : Bool} {cs : List Check} {o : Operand} {m : Pfn} {ops : List Check → List Check} (base : Hpa) (t : Tables) (d : Hpa) (least most : ℕ) (k : Found → Pfn → Plan)
+    → Besides o m ops → Numbers r (k (domainOf t (named base (length (t .frames)) d)) m) cs
+    → Numbers r (onParties (builtFor base t d o least most) Say k)
+    (check operand (inWindow base (length (t .frames)) d) ∷ ops (built t (named base (length (t .frames)) d) least most cs))
+unfolding builtFor
+built-first {o = o} {m = m} base t d least most k b e =
+    after (partiesFor base t d o) _ k (parties-first base t d _ b (by-state _ _ _ (domainOf t (named base (length (t .frames)) d)) m k e))
+
+pub spot-first : {r : Bool} {cs : List Check} {o : Operand} {m : Pfn} {ops : List Check → List Check} (base : Hpa) (t : Tables) (d : Hpa) (gpa : Gpa) (level lowest least most : ℕ) (k : Found → Pfn → Plan)
+    → Besides o m ops → Numbers r (k (domainOf t (named base (length (t .frames)) d)) m) cs
+    → Numbers r (onParties (spotFor base t d gpa level lowest o least most) Say k)
+    (spot base t d gpa level lowest (ops (built t (named base (length (t .frames)) d) least most cs)))
+unfolding spotFor given
+spot-first base t d gpa level lowest least most k b e = built-first base t d least most k (spot-besides gpa level lowest b) e
 
 -- ---- the entry
 pub walk-first : {r : Bool} {cs : List Check} (w : Walk) (k : ℕ → ℕ → Plan)
@@ -223,6 +259,36 @@ pub reach-first : {r : Bool} {cs : List Check} (t : Tables) (x : Found) (gpa : G
     (walked (walkOf t x gpa level) (check entry (between least (arrived t (walkOf t x gpa level) .state) most) ∷ cs))
 unfolding entryFor given
 reach-first t x gpa level least most k e = by-reach t (walkOf t x gpa level) level least most k e
+
+-- F's 2 before the entry
+pub offered-first : {r : Bool} {cs : List Check} (b : Bool) (j : ℕ) (q : Reach) (k : ℕ → ℕ → Entry → Plan) → Numbers r (onReach q Say k) cs
+    → Numbers r (onReach (iff b q (reach.Not (answer.No 2 j))) Say k) (check offered b ∷ cs)
+unfolding onReach numberP firstNo iff valuesOf TellsP Tells
+offered-first true j q k e = record { is = e .is; tells = e .tells }
+offered-first false j q k e = record { is = refl; tells = tt }
+
+-- 8 and the frame's 14 after the entry
+by-tracked : {r : Bool} {cs : List Check} (w : Reason) → number w ≡ 14 → (c d : Bool) (b i : ℕ) (e : Entry) (k : ℕ → ℕ → Entry → Plan) → Numbers r (k b i e) cs
+    → Numbers r (onReach (iff c (iff d (reach.At b i e) (reach.Not (answer.No 14 0))) (reach.Not (answer.No 8 0))) Say k) (check untracked c ∷ check w d ∷ cs)
+unfolding onReach numberP firstNo iff valuesOf TellsP Tells
+by-tracked w n false d b i e k h = record { is = refl; tells = tt }
+by-tracked w n true false b i e k h = record { is = sym n; tells = tt }
+by-tracked w n true true b i e k h = record { is = h .is; tells = h .tells }
+
+behind : {r : Bool} {cs : List Check} (q : Reach) (next : ℕ → ℕ → Entry → Reach) (k : ℕ → ℕ → Entry → Plan)
+    → Numbers r (onReach q Say λ b i e. onReach (next b i e) Say k) cs → Numbers r (onReach (onReach q reach.Not next) Say k) cs
+unfolding onReach
+behind (reach.Not a) next k e = e
+behind (reach.At b i f) next k e = e
+
+pub tracked-first : {r : Bool} {cs : List Check} (w : Reason) → number w ≡ 14 → (t : Tables) (x : Found) (gpa : Gpa) (level least most : ℕ) (k : ℕ → ℕ → Entry → Plan)
+    → ((b i : ℕ) → Numbers r (k b i (arrived t (walkOf t x gpa level))) cs)
+    → Numbers r (onReach (trackedFor t x gpa level least most) Say k)
+    (reached t x gpa level least most λ e. check untracked (isTracked (t .frames) (e .frame) x) ∷ own w t x e cs)
+unfolding trackedFor
+tracked-first w n t x gpa level least most k e =
+    behind (entryFor t x gpa level least most) _ k
+    (reach-first t x gpa level least most _ λ b i. by-tracked w n _ _ b i (arrived t (walkOf t x gpa level)) k (e b i))
 
 -- ---- the stock
 pub stock-first : {r : Bool} {cs : List Check} (l : Lowest) (k : ℕ → Plan) → ((b : ℕ) → Numbers r (k b) cs)

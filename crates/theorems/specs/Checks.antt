@@ -1,14 +1,14 @@
 -- For each row of "The calls", its "Needs" as a list of checks in the paper's order. A reader ticks them off against the table; the
 -- theorem `answered` (proofs/Answers) says that a call's number is that of the first check that fails.
-use Prim.Native.Nat.{ℕ, _/_}
+use Prim.Native.Nat.{ℕ}
 use mathlib.Core.Bool.{Bool, true, false, not}
 use mathlib.Core.List.{List, [], _∷_}
 use lib.ListN.{length}
-use lib.Dec.{eqb, ltb, leb}
+use lib.Dec.{eqb, ltb}
 use Rattle.rules.specs.Rule.{iff}
-use Rattle.units.specs.Limits.{between, controlPages, tableEntries, epochMost, keyOk}
+use Rattle.units.specs.Limits.{between, controlPages, epochMost, keyOk}
 use Rattle.units.specs.Address.{frameOf}
-use Rattle.levels.specs.Level.{levelOk, gpaFits}
+use Rattle.levels.specs.Level.{topLevel, levelOk, gpaFits}
 use Rattle.units.specs.declared.address.Hpa.{Hpa}
 use Rattle.units.specs.declared.address.Gpa.{Gpa}
 use Rattle.units.specs.declared.address.Pfn.{Pfn}
@@ -17,14 +17,14 @@ use Rattle.gauge.specs.declared.Gauge.{Gauge}
 use Rattle.stock.specs.Bits.{inUse, lowestUnused, onLowest}
 use Rattle.ledger.specs.Codes.{NDA, TDR, EPT, ASSIGNED, CONFIGURED, BLOCKED-LIFE, TEARDOWN, UNINITIALIZED, INITIALIZED, RUNNABLE, FREE, NL-MAPPED, PENDING, NL-BLOCKED, BLOCKED, PENDING-BLOCKED}
 use Rattle.range.specs.Range.{lentOk}
-use Rattle.ledger.specs.Sizes.{tablesOf}
+use Rattle.ledger.specs.Sizes.{tablesOf, bitsOf}
 use Rattle.ledger.specs.Tables.{Tables, frameAt, domainAt, entryAt}
 use Rattle.ledger.specs.declared.words.Entry.{Entry}
 use Rattle.walk.specs.Walk.{ownFrame, onWalk}
 use Rattle.walk.specs.declared.Walk.{Walk}
 use Rattle.calls.specs.declared.Call.{Call}
 use Rattle.calls.specs.declared.Call.the-variants as call
-use Rattle.plan.specs.Lookup.{onPlace, rootIn}
+use Rattle.plan.specs.Lookup.{onPlace, isNda, bitIn, rootIn}
 use Rattle.domains.specs.Domains.{keyUnused}
 use Rattle.plan.specs.Entries.{walkOf, isTracked, tableEmpty}
 use Rattle.plan.specs.declared.lookup.Found.{Found}
@@ -43,7 +43,9 @@ abbrev pub domainOf : Tables → Pfn → Found
 domainOf t n = record {
   tdr = n;
   rec = frameAt (t .frames) n .number;
+  bit = bitIn t (frameAt (t .frames) n .number);
   root = rootIn t (frameAt (t .frames) n .number);
+  top = topLevel;
   dom = domainAt (t .domains) (frameAt (t .frames) n .number);
 }
 
@@ -69,7 +71,7 @@ spot base t d gpa level least rest =
     ∷ rest
 
 abbrev pub isDomain : Tables → Pfn → List Check → List Check
-isDomain t n rest = check domain (kindIs t n TDR) ∷ check record′ (inUse (t .stock) (domainOf t n .root)) ∷ rest
+isDomain t n rest = check domain (kindIs t n TDR) ∷ check record′ (inUse (t .stock) (domainOf t n .bit)) ∷ rest
 
 abbrev pub built : Tables → Pfn → ℕ → ℕ → List Check → List Check
 built t n least most rest =
@@ -116,7 +118,7 @@ module _ (base : Hpa) (t : Tables) where
   abbrev pub inTeardown : Pfn → List Check → List Check
   inTeardown n rest =
       check record′ (kindIs t n TDR)
-      ∷ check record′ (inUse (t .stock) (domainOf t n .root))
+      ∷ check record′ (inUse (t .stock) (domainOf t n .bit))
       ∷ check lifecycle (eqb (domainOf t n .dom .life) TEARDOWN)
       ∷ rest
 
@@ -133,25 +135,25 @@ module _ (base : Hpa) (t : Tables) where
   checksOf (call.Create f k) =
       inside f (
       check operand (keyOk k)
-      ∷ check offered (kindIs t (window f) NDA)
-      ∷ check key (keyUnused t (tablesOf (length (t .domains)) (length (t .entries))) k)
-      ∷ check stock (onLowest (lowestUnused (t .stock) (tablesOf (length (t .domains)) (length (t .entries))) (length (t .entries) / tableEntries)) false λ b. true)
+      ∷ check offered (isNda (t .frames) (window f))
+      ∷ check key (keyUnused (t .domains) (t .stock) (tablesOf (length (t .domains)) (length (t .entries))) (bitsOf (length (t .domains)) (length (t .entries))) k)
+      ∷ check stock (onLowest (lowestUnused (t .stock) (tablesOf (length (t .domains)) (length (t .entries))) (bitsOf (length (t .domains)) (length (t .entries)))) false λ b. true)
       ∷ [])
-  checksOf (call.KeyConfig d) = inside d (isDomain t (window d) (check lifecycle (eqb (domainAtHpa d .dom .life) ASSIGNED) ∷ []))
+  checksOf (call.KeyConfig d) = inside d (isDomain t (window d) (check lifecycle (between ASSIGNED (domainAtHpa d .dom .life) ASSIGNED) ∷ []))
   checksOf (call.AddCx d f) =
       inside d (
       inside f (
       isDomain t (window d) (
       check lifecycle (eqb (domainAtHpa d .dom .life) CONFIGURED)
       ∷ check pages (ltb (domainAtHpa d .dom .listed) controlPages)
-      ∷ check offered (kindIs t (window f) NDA)
+      ∷ check offered (isNda (t .frames) (window f))
       ∷ room t (domainAtHpa d))))
   checksOf (call.Init d) = inside d (built t (window d) UNINITIALIZED UNINITIALIZED [])
   checksOf (call.SeptAdd d gpa level f) =
       spot base t d gpa level 1 (
       inside f (
       live t (window d) (
-      check offered (kindIs t (window f) NDA)
+      check offered (isNda (t .frames) (window f))
       ∷ reached t (domainAtHpa d) gpa level FREE FREE λ e.
       check stock (onLowest (lowestUnused (t .stock) 0 (tablesOf (length (t .domains)) (length (t .entries)))) false λ b. true)
       ∷ room t (domainAtHpa d))))
@@ -159,14 +161,14 @@ module _ (base : Hpa) (t : Tables) where
       spot base t d gpa 0 0 (
       inside f (
       built t (window d) INITIALIZED INITIALIZED (
-      check offered (kindIs t (window f) NDA)
+      check offered (isNda (t .frames) (window f))
       ∷ reached t (domainAtHpa d) gpa 0 FREE FREE λ e. room t (domainAtHpa d))))
   checksOf (call.Finalize d) = inside d (built t (window d) INITIALIZED INITIALIZED [])
   checksOf (call.PageAug d gpa f) =
       spot base t d gpa 0 0 (
       inside f (
       built t (window d) RUNNABLE RUNNABLE (
-      check offered (kindIs t (window f) NDA)
+      check offered (isNda (t .frames) (window f))
       ∷ reached t (domainAtHpa d) gpa 0 FREE FREE λ e. room t (domainAtHpa d))))
   checksOf (call.Block d gpa level) =
       spot base t d gpa level 0 (
@@ -178,24 +180,24 @@ module _ (base : Hpa) (t : Tables) where
       spot base t d gpa level 0 (
       live t (window d) (
       reached t (domainAtHpa d) gpa level NL-BLOCKED PENDING-BLOCKED λ e.
-      check untracked (isTracked t (e .frame) (domainAtHpa d))
+      check untracked (isTracked (t .frames) (e .frame) (domainAtHpa d))
       ∷ own frame t (domainAtHpa d) e []))
   checksOf (call.PageRemove d gpa) =
       spot base t d gpa 0 0 (
       live t (window d) (
       reached t (domainAtHpa d) gpa 0 BLOCKED PENDING-BLOCKED λ e.
-      check untracked (isTracked t (e .frame) (domainAtHpa d))
+      check untracked (isTracked (t .frames) (e .frame) (domainAtHpa d))
       ∷ own frame t (domainAtHpa d) e (hasChild (domainAtHpa d))))
   checksOf (call.SeptRemove d gpa level) =
       spot base t d gpa level 1 (
       live t (window d) (
       reached t (domainAtHpa d) gpa level NL-BLOCKED NL-BLOCKED λ e.
-      check untracked (isTracked t (e .frame) (domainAtHpa d))
+      check untracked (isTracked (t .frames) (e .frame) (domainAtHpa d))
       ∷ own emptied t (domainAtHpa d) e (
-      check remain (tableEmpty t (frameAt (t .frames) (e .frame) .number))
+      check remain (tableEmpty (t .entries) (frameAt (t .frames) (e .frame) .number))
       ∷ hasChild (domainAtHpa d))))
-  checksOf (call.FlushDone d) = inside d (isDomain t (window d) (check lifecycle (leb (domainAtHpa d .dom .life) CONFIGURED) ∷ []))
-  checksOf (call.KeyFree d) = inside d (isDomain t (window d) (check lifecycle (eqb (domainAtHpa d .dom .life) BLOCKED-LIFE) ∷ []))
+  checksOf (call.FlushDone d) = inside d (isDomain t (window d) (check lifecycle (between ASSIGNED (domainAtHpa d .dom .life) CONFIGURED) ∷ []))
+  checksOf (call.KeyFree d) = inside d (isDomain t (window d) (check lifecycle (between BLOCKED-LIFE (domainAtHpa d .dom .life) BLOCKED-LIFE) ∷ []))
   checksOf (call.Reclaim f) =
       inside f (
       check domain (not (kindIs t (window f) NDA))

@@ -1,6 +1,5 @@
 -- The calls on what a domain's tree has, a row of "The calls" each. Page calls work at level 0.
 use Prim.Native.Nat.{ℕ}
-use lib.ListN.{length}
 use lib.Dec.{eqb}
 use Rattle.rules.specs.Rule.{iff, need, given}
 use Rattle.units.specs.Address.{hpaOf}
@@ -11,12 +10,11 @@ use Rattle.ledger.specs.Tables.{Tables, frameAt, entryAt}
 use Rattle.walk.specs.Walk.{ownFrame, onWalk}
 use Rattle.calls.specs.declared.Answer.the-variants as answer
 use Rattle.plan.specs.Edits.{edit, withFrameEpoch, entry, freeEntry}
-use Rattle.plan.specs.Lookup.{onOperand, onLookup, spotOperands, liveFor}
 use Rattle.plan.specs.Entries.{walkOf, entryFor, onReach, blockedState, unblockedState, isTracked, tableEmpty}
-use Rattle.plan.specs.Changes.{refuse, onSpot, lose}
+use Rattle.plan.specs.Changes.{refuse, onLive, lose}
 use Rattle.plan.specs.declared.lookup.Found.{Found}
-use Rattle.plan.specs.declared.lookup.Lookup.{Lookup}
-use Rattle.plan.specs.declared.lookup.Lookup.the-variants.{Not}
+use Rattle.plan.specs.declared.entry.Reach.{Reach}
+use Rattle.plan.specs.declared.entry.Reach.the-variants.{At, Not}
 use Rattle.plan.specs.declared.edit.FrameEdit.the-variants as frame
 use Rattle.plan.specs.declared.edit.PageEdit.the-variants as page
 use Rattle.plan.specs.declared.edit.DomainEdit.the-variants as domains
@@ -24,10 +22,6 @@ use Rattle.plan.specs.declared.edit.StockEdit.the-variants as stock
 use Rattle.plan.specs.declared.edit.EntryEdit.the-variants as entries
 use Rattle.plan.specs.declared.edit.Plan.{Plan}
 use Rattle.plan.specs.declared.edit.Plan.the-variants.{Say, Do}
-
--- D live, with a gpa and a level from `least` on
-unfoldable pub liveAt : Hpa → Tables → Hpa → Gpa → ℕ → ℕ → Lookup
-liveAt base t d gpa level least = onOperand (spotOperands base (length (t .frames)) d gpa level least) (λ k. Not (answer.No 1 k)) (λ n. liveFor t n)
 
 -- ---- block: entry 1, 2 or 3, its frame's 14; entry 4, 5 or 6, and its frame's epoch := the domain's
 unfoldable pub blockAt : Tables → Found → Gpa → ℕ → Plan
@@ -41,55 +35,52 @@ blockAt t x gpa level =
 
 unfoldable pub blockPlan : Hpa → Tables → Hpa → Gpa → ℕ → Plan
 blockPlan base t d gpa level =
-    onSpot base t d gpa level 0 λ n.
-    onLookup (liveFor t n) Say λ x.
+    onLive base t d gpa level 0 λ x.
     blockAt t x gpa level
 
--- unblock: entry 4, 5 or 6; tracked (8); its frame's 14; entry 1, 2 or 3
+-- ---- an entry that was blocked: its state from `least` to `most`; tracked (8); its frame's 14
+unfoldable pub trackedFor : Tables → Found → Gpa → ℕ → ℕ → ℕ → Reach
+trackedFor t x gpa level least most =
+    onReach (entryFor t x gpa level least most) Not λ b i e.
+    need (isTracked (t .frames) (e .frame) x) (Not (answer.No 8 0)) (
+    need (ownFrame (t .frames) (t .stock) (x .tdr) e) (Not (answer.No 14 0))
+    (At b i e))
+
+-- unblock: entry 4, 5 or 6; entry 1, 2 or 3
 unfoldable pub unblockAt : Tables → Found → Gpa → ℕ → Plan
 unblockAt t x gpa level =
-    onReach (entryFor t x gpa level NL-BLOCKED PENDING-BLOCKED) Say λ b i e.
-    need (isTracked t (e .frame) x) (refuse 8 0) (
-    need (ownFrame (t .frames) (t .stock) (x .tdr) e) (refuse 14 0) (
+    onReach (trackedFor t x gpa level NL-BLOCKED PENDING-BLOCKED) Say λ b i e.
     given (unblockedState (e .state)) λ state.
-    Do (edit frame.Keep page.Keep domains.Keep stock.Keep (entries.Set b i (entry state (e .frame))))))
+    Do (edit frame.Keep page.Keep domains.Keep stock.Keep (entries.Set b i (entry state (e .frame))))
 
 unfoldable pub unblockPlan : Hpa → Tables → Hpa → Gpa → ℕ → Plan
 unblockPlan base t d gpa level =
-    onSpot base t d gpa level 0 λ n.
-    onLookup (liveFor t n) Say λ x.
+    onLive base t d gpa level 0 λ x.
     unblockAt t x gpa level
 
--- ---- removals: tracked (8), the frame's 14, a table's 9, the count's 14; frame NDA, entry FREE
+-- ---- removals: a table's 9, the count's 14; frame NDA, entry FREE
 unfoldable pub pageremoveAt : Tables → Found → Gpa → Plan
 pageremoveAt t x gpa =
-    onReach (entryFor t x gpa 0 BLOCKED PENDING-BLOCKED) Say λ b i e.
-    need (isTracked t (e .frame) x) (refuse 8 0) (
-    need (ownFrame (t .frames) (t .stock) (x .tdr) e) (refuse 14 0)
-    (lose x (e .frame) stock.Keep (entries.Set b i freeEntry)))
+    onReach (trackedFor t x gpa 0 BLOCKED PENDING-BLOCKED) Say λ b i e.
+    lose x (e .frame) stock.Keep (entries.Set b i freeEntry)
 
 -- pageremove: live; entry 5 or 6; tracked; frame NDA, entry FREE
 unfoldable pub pageremovePlan : Hpa → Tables → Hpa → Gpa → Plan
 pageremovePlan base t d gpa =
-    onSpot base t d gpa 0 0 λ n.
-    onLookup (liveFor t n) Say λ x.
+    onLive base t d gpa 0 0 λ x.
     pageremoveAt t x gpa
 
--- septremove: 8, the frame's and table's 14, 9, the count's 14
 unfoldable pub septremoveAt : Tables → Found → Gpa → ℕ → Plan
 septremoveAt t x gpa level =
-    onReach (entryFor t x gpa level NL-BLOCKED NL-BLOCKED) Say λ b i e.
-    need (isTracked t (e .frame) x) (refuse 8 0) (
-    need (ownFrame (t .frames) (t .stock) (x .tdr) e) (refuse 14 0) (
+    onReach (trackedFor t x gpa level NL-BLOCKED NL-BLOCKED) Say λ b i e.
     given (frameAt (t .frames) (e .frame)) λ f.
-    need (tableEmpty t (f .number)) (refuse 9 0)
-    (lose x (e .frame) (stock.Give (f .number)) (entries.Set b i freeEntry))))
+    need (tableEmpty (t .entries) (f .number)) (refuse 9 0)
+    (lose x (e .frame) (stock.Give (f .number)) (entries.Set b i freeEntry))
 
 -- septremove: live; entry 4; tracked; its 512 entries FREE; frame NDA, table given back, entry FREE
 unfoldable pub septremovePlan : Hpa → Tables → Hpa → Gpa → ℕ → Plan
 septremovePlan base t d gpa level =
-    onSpot base t d gpa level 1 λ n.
-    onLookup (liveFor t n) Say λ x.
+    onLive base t d gpa level 1 λ x.
     septremoveAt t x gpa level
 
 -- ---- readentry: live; level, state, hpa (0 if FREE). The walk's 6 and 14, and no more
@@ -103,6 +94,5 @@ readentryAt base t x gpa level =
 
 unfoldable pub readentryPlan : Hpa → Tables → Hpa → Gpa → ℕ → Plan
 readentryPlan base t d gpa level =
-    onSpot base t d gpa level 0 λ n.
-    onLookup (liveFor t n) Say λ x.
+    onLive base t d gpa level 0 λ x.
     readentryAt base t x gpa level

@@ -4,7 +4,8 @@ ghost use Rattle.ledger.specs.Tables.{lent};
 ghost use Rattle.plan.specs.Changes.{lose};
 ghost use Rattle.plan.specs.Edits.{withFrameEpoch, freeEntry};
 ghost use Rattle.plan.specs.Entries.{isTracked};
-ghost use Rattle.trees.specs.Trees.{liveAt, blockAt, blockPlan, unblockAt, unblockPlan, pageremoveAt, pageremovePlan, septremoveAt, septremovePlan, readentryAt, readentryPlan};
+ghost use Rattle.plan.specs.Lookup.{noFrame, liveFor};
+ghost use Rattle.trees.specs.Trees.{blockAt, blockPlan, trackedFor, unblockAt, unblockPlan, pageremoveAt, pageremovePlan, septremoveAt, septremovePlan, readentryAt, readentryPlan};
 use calls::Answer;
 use ledger::codes::BLOCKED;
 use ledger::codes::FREE;
@@ -29,8 +30,8 @@ use plan::entry;
 use plan::entry::Reach;
 use plan::lookup;
 use plan::lookup::Found;
-use plan::lookup::Lookup;
-use plan::lookup::Operand;
+use plan::lookup::NO_FRAME;
+use plan::lookup::Parties;
 use units::address;
 use units::address::Gpa;
 use units::address::Hpa;
@@ -38,15 +39,8 @@ use units::address::Pfn;
 use walk::Walk;
 
 // Whether a frame is tracked for the domain x.
-fn is_tracked(
-    frames: &[u64],
-    domains: &[u64],
-    stock: &[u64],
-    entries: &[u32],
-    n: Pfn,
-    x: Found,
-) -> bool
-    ensures { λ r. ⌜ r ≡ isTracked (lent (now (frames .entry)) (now (domains .entry)) (now (stock .entry)) (now (entries .entry))) n x ⌝ }
+fn is_tracked(frames: &[u64], n: Pfn, x: Found) -> bool
+    ensures { λ r. ⌜ r ≡ isTracked (now (frames .entry)) n x ⌝ }
 {
     let f = tables::frame_at(frames, n);
     let d = x.dom;
@@ -110,6 +104,35 @@ fn with_epoch(f: Frame, epoch: u64) -> Frame
         owner,
         number: f.number,
         epoch,
+        size: f.size,
+    }
+}
+
+// An entry, its state from `least` to `most`, whose frame is tracked and the domain's own.
+fn tracked_for(
+    frames: &[u64],
+    domains: &[u64],
+    stock: &[u64],
+    entries: &[u32],
+    x: Found,
+    gpa: Gpa,
+    level: usize,
+    least: u64,
+    most: u64,
+) -> Reach
+    ensures { λ r. ⌜ r ≡ trackedFor (lent (now (frames .entry)) (now (domains .entry)) (now (stock .entry)) (now (entries .entry))) x gpa level least most ⌝ }
+{
+    match entry::entry_for(frames, domains, stock, entries, x, gpa, level, least, most) {
+        Reach::Not(a) => Reach::Not(a),
+        Reach::At(b, i, e) => {
+            if !is_tracked(frames, e.frame, x) {
+                return Reach::Not(Answer::No(8, 0));
+            }
+            if !walk::own_frame(frames, stock, x.tdr, e) {
+                return Reach::Not(Answer::No(14, 0));
+            }
+            Reach::At(b, i, e)
+        }
     }
 }
 
@@ -124,7 +147,7 @@ fn unblock_at(
 ) -> Plan
     ensures { λ r. ⌜ r ≡ unblockAt (lent (now (frames .entry)) (now (domains .entry)) (now (stock .entry)) (now (entries .entry))) x gpa level ⌝ }
 {
-    match entry::entry_for(
+    match tracked_for(
         frames,
         domains,
         stock,
@@ -138,25 +161,16 @@ fn unblock_at(
         Reach::Not(a) => Plan::Say(a),
         Reach::At(b, i, e) => {
             let frame = e.frame;
-            if !is_tracked(frames, domains, stock, entries, frame, x) {
-                return Plan::Say(Answer::No(8, 0));
-            }
-            if !walk::own_frame(frames, stock, x.tdr, e) {
-                return Plan::Say(Answer::No(14, 0));
-            }
+            let unblocked = Entry {
+                state: entry::unblocked_state(e.state),
+                frame,
+            };
             Plan::Do(Edit {
                 frame: FrameEdit::Keep,
                 page: PageEdit::Keep,
                 domain: DomainEdit::Keep,
                 stock: StockEdit::Keep,
-                entry: EntryEdit::Set(
-                    b,
-                    i,
-                    Entry {
-                        state: entry::unblocked_state(e.state),
-                        frame,
-                    },
-                ),
+                entry: EntryEdit::Set(b, i, unblocked),
             })
         }
     }
@@ -183,7 +197,7 @@ fn pageremove_at(
 ) -> Plan
     ensures { λ r. ⌜ r ≡ pageremoveAt (lent (now (frames .entry)) (now (domains .entry)) (now (stock .entry)) (now (entries .entry))) x gpa ⌝ }
 {
-    match entry::entry_for(
+    match tracked_for(
         frames,
         domains,
         stock,
@@ -195,16 +209,7 @@ fn pageremove_at(
         PENDING_BLOCKED,
     ) {
         Reach::Not(a) => Plan::Say(a),
-        Reach::At(b, i, e) => {
-            let frame = e.frame;
-            if !is_tracked(frames, domains, stock, entries, frame, x) {
-                return Plan::Say(Answer::No(8, 0));
-            }
-            if !walk::own_frame(frames, stock, x.tdr, e) {
-                return Plan::Say(Answer::No(14, 0));
-            }
-            frees(x, frame, StockEdit::Keep, b, i)
-        }
+        Reach::At(b, i, e) => frees(x, e.frame, StockEdit::Keep, b, i),
     }
 }
 
@@ -219,7 +224,7 @@ fn septremove_at(
 ) -> Plan
     ensures { λ r. ⌜ r ≡ septremoveAt (lent (now (frames .entry)) (now (domains .entry)) (now (stock .entry)) (now (entries .entry))) x gpa level ⌝ }
 {
-    match entry::entry_for(
+    match tracked_for(
         frames,
         domains,
         stock,
@@ -232,19 +237,12 @@ fn septremove_at(
     ) {
         Reach::Not(a) => Plan::Say(a),
         Reach::At(b, i, e) => {
-            let frame = e.frame;
-            if !is_tracked(frames, domains, stock, entries, frame, x) {
-                return Plan::Say(Answer::No(8, 0));
-            }
-            if !walk::own_frame(frames, stock, x.tdr, e) {
-                return Plan::Say(Answer::No(14, 0));
-            }
-            let f = tables::frame_at(frames, frame);
+            let f = tables::frame_at(frames, e.frame);
             let table = f.number as usize;
-            if !entry::table_empty(frames, domains, stock, entries, table) {
+            if !entry::table_empty(entries, table) {
                 return Plan::Say(Answer::No(9, 0));
             }
-            frees(x, frame, StockEdit::Give(table), b, i)
+            frees(x, e.frame, StockEdit::Give(table), b, i)
         }
     }
 }
@@ -274,7 +272,7 @@ fn readentry_at(
     }
 }
 
-// D live, with a gpa and a level from `least` on.
+// D live, with a gpa and a level from `lowest` on.
 fn find_live(
     base: Hpa,
     frames: &[u64],
@@ -284,22 +282,24 @@ fn find_live(
     tdr: Hpa,
     gpa: Gpa,
     level: usize,
-    least: usize,
-) -> Lookup
-    ensures { λ r. ⌜ r ≡ liveAt base (lent (now (frames .entry)) (now (domains .entry)) (now (stock .entry)) (now (entries .entry))) tdr gpa level least ⌝ }
+    lowest: usize,
+) -> Parties
+    ensures { λ r. ⌜ r ≡ liveFor base (lent (now (frames .entry)) (now (domains .entry)) (now (stock .entry)) (now (entries .entry))) tdr gpa level lowest noFrame ⌝ }
 {
-    match lookup::spot_operands(base, frames.len(), tdr, gpa, level, least) {
-        Operand::Bad(k) => Lookup::Not(Answer::No(1, k)),
-        Operand::Frame(n) => lookup::find_built(
-            frames,
-            domains,
-            stock,
-            entries,
-            n,
-            INITIALIZED,
-            RUNNABLE,
-        ),
-    }
+    lookup::find_spot(
+        base,
+        frames,
+        domains,
+        stock,
+        entries,
+        tdr,
+        gpa,
+        level,
+        lowest,
+        NO_FRAME,
+        INITIALIZED,
+        RUNNABLE,
+    )
 }
 
 pub fn plan_block(
@@ -315,8 +315,8 @@ pub fn plan_block(
     ensures { λ r. ⌜ r ≡ blockPlan base (lent (now (frames .entry)) (now (domains .entry)) (now (stock .entry)) (now (entries .entry))) tdr gpa level ⌝ }
 {
     match find_live(base, frames, domains, stock, entries, tdr, gpa, level, 0) {
-        Lookup::Not(a) => Plan::Say(a),
-        Lookup::Is(x) => block_at(frames, domains, stock, entries, x, gpa, level),
+        Parties::Not(a) => Plan::Say(a),
+        Parties::Are(x, _) => block_at(frames, domains, stock, entries, x, gpa, level),
     }
 }
 
@@ -333,8 +333,8 @@ pub fn plan_unblock(
     ensures { λ r. ⌜ r ≡ unblockPlan base (lent (now (frames .entry)) (now (domains .entry)) (now (stock .entry)) (now (entries .entry))) tdr gpa level ⌝ }
 {
     match find_live(base, frames, domains, stock, entries, tdr, gpa, level, 0) {
-        Lookup::Not(a) => Plan::Say(a),
-        Lookup::Is(x) => unblock_at(frames, domains, stock, entries, x, gpa, level),
+        Parties::Not(a) => Plan::Say(a),
+        Parties::Are(x, _) => unblock_at(frames, domains, stock, entries, x, gpa, level),
     }
 }
 
@@ -350,8 +350,8 @@ pub fn plan_pageremove(
     ensures { λ r. ⌜ r ≡ pageremovePlan base (lent (now (frames .entry)) (now (domains .entry)) (now (stock .entry)) (now (entries .entry))) tdr gpa ⌝ }
 {
     match find_live(base, frames, domains, stock, entries, tdr, gpa, 0, 0) {
-        Lookup::Not(a) => Plan::Say(a),
-        Lookup::Is(x) => pageremove_at(frames, domains, stock, entries, x, gpa),
+        Parties::Not(a) => Plan::Say(a),
+        Parties::Are(x, _) => pageremove_at(frames, domains, stock, entries, x, gpa),
     }
 }
 
@@ -368,8 +368,8 @@ pub fn plan_septremove(
     ensures { λ r. ⌜ r ≡ septremovePlan base (lent (now (frames .entry)) (now (domains .entry)) (now (stock .entry)) (now (entries .entry))) tdr gpa level ⌝ }
 {
     match find_live(base, frames, domains, stock, entries, tdr, gpa, level, 1) {
-        Lookup::Not(a) => Plan::Say(a),
-        Lookup::Is(x) => septremove_at(frames, domains, stock, entries, x, gpa, level),
+        Parties::Not(a) => Plan::Say(a),
+        Parties::Are(x, _) => septremove_at(frames, domains, stock, entries, x, gpa, level),
     }
 }
 
@@ -386,7 +386,7 @@ pub fn plan_readentry(
     ensures { λ r. ⌜ r ≡ readentryPlan base (lent (now (frames .entry)) (now (domains .entry)) (now (stock .entry)) (now (entries .entry))) tdr gpa level ⌝ }
 {
     match find_live(base, frames, domains, stock, entries, tdr, gpa, level, 0) {
-        Lookup::Not(a) => Plan::Say(a),
-        Lookup::Is(x) => readentry_at(base, frames, domains, stock, entries, x, gpa, level),
+        Parties::Not(a) => Plan::Say(a),
+        Parties::Are(x, _) => readentry_at(base, frames, domains, stock, entries, x, gpa, level),
     }
 }

@@ -21,26 +21,50 @@ leastExponent = 9
 abbrev pub mostExponent : ℕ
 mostExponent = 12
 
+abbrev pub framesLeast : ℕ
+framesLeast = 2 ^ leastExponent
+
+abbrev pub framesMost : ℕ
+framesMost = 2 ^ mostExponent
+
 unfoldable pub framesOk : ℕ → Bool
-framesOk n = need (eqb (ones n) 1) false (between (2 ^ leastExponent) n (2 ^ mostExponent))
+framesOk n = need (eqb (ones n) 1) false (between framesLeast n framesMost)
 
 -- "Window base: bytes, a multiple of 2^30 (a TDMR is aligned on 1 GB), from 2^30 to 2^46."
 unfoldable pub baseOk : Hpa → Bool
 baseOk base = need (eqb (base .0 % 2 ^ 30) 0) false (between (2 ^ 30) (base .0) (2 ^ 46))
 
 -- "Domain records in stock: 1 to 16. Secure EPT tables in stock: 4 to 64, each 512 entries."
+abbrev pub recordsLeast : ℕ
+recordsLeast = 1
+
+abbrev pub recordsMost : ℕ
+recordsMost = 16
+
 abbrev pub recordsOk : ℕ → Bool
-recordsOk n = between 1 n 16
+recordsOk n = between recordsLeast n recordsMost
+
+abbrev pub tablesLeast : ℕ
+tablesLeast = 4
+
+abbrev pub tablesMost : ℕ
+tablesMost = 64
 
 abbrev pub tablesOk : ℕ → Bool
-tablesOk n = between 4 n 64
+tablesOk n = between tablesLeast n tablesMost
 
 abbrev pub tableEntries : ℕ
 tableEntries = 512
 
 -- "Keys (HKID): 32 to 47. Control pages (TDCX) of a domain: 4."
+abbrev pub keyLeast : ℕ
+keyLeast = 32
+
+abbrev pub keyMost : ℕ
+keyMost = 47
+
 abbrev pub keyOk : ℕ → Bool
-keyOk k = between 32 k 47
+keyOk k = between keyLeast k keyMost
 
 abbrev pub controlPages : ℕ
 controlPages = 4
@@ -54,8 +78,11 @@ abbrev pub gpaEnd : ℕ
 gpaEnd = 2 ^ 47
 
 -- "Epoch: 1 to 2^32 - 1."
+abbrev pub epochLeast : ℕ
+epochLeast = 1
+
 abbrev pub epochMost : ℕ
 epochMost = 4294967295
 
 abbrev pub epochOk : ℕ → Bool
-epochOk e = between 1 e epochMost
+epochOk e = between epochLeast e epochMost

@@ -10,8 +10,6 @@ sept-at-spec =
     tie.close
     (tie.spec
     (λ c κs. search needs)
-    (λ c. search ons depth 16)
-    (λ c κs. search needs)
     (λ c. search needs)
     (λ c. search needs)
     (λ c κs. search needs)

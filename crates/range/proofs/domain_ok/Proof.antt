@@ -16,4 +16,5 @@ domain-ok-spec =
     (λ c. search steps depth 12)
     (λ c. search steps depth 12)
     (λ c κs. search needs)
+    (λ c. search steps depth 12)
     (λ c. search steps depth 12))

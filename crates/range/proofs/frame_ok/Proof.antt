@@ -13,4 +13,5 @@ frame-ok-spec =
     (λ c κs. search needs)
     (λ c. search steps depth 12)
     (λ c. search steps depth 12)
+    (λ c. search steps depth 12)
     (λ c. search steps depth 12))

@@ -11,6 +11,7 @@ lengths-ok-spec =
     (tie.spec
     (λ c. search steps depth 12)
     (λ c. search steps depth 12)
+    (λ c κs. search needs)
     (λ c. search needs)
     (λ c. search needs)
-    (λ c. search steps depth 12))
+    (λ c. rw (c .bits-of .ensures) (search steps depth 12)))

@@ -2,17 +2,16 @@ use mathlib.Core.Path.{refl}
 use Prim.Native.Nat.{_-_}
 use borrow.Author.Needs.{needs}
 use Rattle.units.specs.Limits.{tableEntries}
-use Rattle.ledger.specs.Tables.{lent}
 use Rattle.rules.proofs.Uptos.{Passed, all-start, alls}
 use Rattle.plan.specs.Entries.{freeAt, tableEmpty}
 use Rattle.plan.proofs.entry.table_empty.Statement.{statement}
 use Rattle.plan.proofs.entry.table_empty.Tie as tie
 
 abbrev Inv-loop : tie.InvT-loop
-Inv-loop frames domains stock entries block index₀ index = Passed (freeAt (lent frames domains stock entries) block) (tableEmpty (lent frames domains stock entries) block) tableEntries index
+Inv-loop entries block index₀ index = Passed (freeAt entries block) (tableEmpty entries block) tableEntries index
 
 abbrev μ-loop : tie.MeasureT-loop
-μ-loop frames domains stock entries block index₀ index = tableEntries - index
+μ-loop entries block index₀ index = tableEntries - index
 
 loop-holds : tie.Need-loop-holds Inv-loop μ-loop
 unfolding tableEmpty

@@ -15,4 +15,6 @@ find-domain-spec =
     (λ c κs. search needs)
     (λ c. search ons depth 16)
     (λ c κs. search needs)
+    (λ c κs. search needs)
+    (λ c. search needs)
     (λ c. search ons depth 16))

@@ -1,22 +1,19 @@
 use Rattle.plan.proofs.Ons.{ons}
-use Rattle.domains.specs.Domains.{keyfreePlan}
+use Rattle.trees.specs.Trees.{trackedFor}
 use borrow.Author.Needs.{needs}
-use Rattle.domains.proofs.plan_keyfree.Statement.{statement}
-use Rattle.domains.proofs.plan_keyfree.Tie as tie
+use Rattle.trees.proofs.tracked_for.Statement.{statement}
+use Rattle.trees.proofs.tracked_for.Tie as tie
 
-pub plan-keyfree-spec : {M : Type 1} → statement M
-unfolding keyfreePlan
-plan-keyfree-spec =
+pub tracked-for-spec : {M : Type 1} → statement M
+unfolding trackedFor
+tracked-for-spec =
     tie.close
     (tie.spec
     (λ c κs. search needs)
     (λ c. search needs)
     (λ c. search needs)
     (λ c κs. search needs)
-    (λ c. search needs)
-    (λ c. search needs)
     (λ c. search ons depth 16)
-    (λ c κs. search needs)
     (λ c κs. search needs)
     (λ c. search ons depth 16)
     (λ c. search ons depth 16)
