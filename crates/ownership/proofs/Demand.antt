@@ -98,7 +98,7 @@ module _ (base : Hpa) (t : Tables) (g : Gauge) (l : Lists) (st : State base t l)
     state = rw (eq-eqb (numberOf a) 0 r, f) st;
     mild = omega arith;
     few = λ _. omega arith;
-    alone = λ _ e k ne. record { tdr = refl; record′ = refl; pages = λ i. refl; kept = λ h b. refl; gained = λ h b. b; tree = λ b i x y. refl };
+    alone = λ _ e k ne. record { tdr = refl; record′ = refl; pages = λ i. refl; kept = λ h b. refl; gained = λ h b. b; tree = λ b i x y. refl; used = λ b x. refl };
   }
   by-plan (steps {e} {gone} {come} n su d) (does k) = record {
     state = record { lent = k .lent; ok = now; tidy = rw (same-extent (same-lengths e t)) (now-does .tidy) };

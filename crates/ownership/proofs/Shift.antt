@@ -13,7 +13,7 @@ use Rattle.ownership.specs.Owned.{Found, weight, times, same, one, Exten
 use Rattle.ownership.specs.Reached.{Lists}
 use Rattle.ownership.proofs.Sums.{size, size-length}
 use Rattle.ownership.proofs.Domain.{SameFrame, same-frame, SameEntry, SameRecord, untouched-owns, untouched-finds}
-use Rattle.ownership.specs.Always.{Numbered, a-table, blockOf}
+use Rattle.ownership.specs.Always.{Numbered, a-record, a-table, blockOf}
 use Rattle.ownership.proofs.Sound.{held, held-key, held-freed, childs, childs-tdr, Sound, owns-walk, Spare, apart, holds, holds-size}
 
 -- ---- the relation
@@ -89,6 +89,7 @@ module _ (z : Extent) (s : View) (l : Lists) (ok : Sound z s l) (s′ : View) (l
     kept = λ f b. stays f b (p .frames f);
     gained = λ f b. back f b (p .frames f);
     tree = λ b i k w. at b i k (p .spots b i w) .entry;
+    used = λ b k. in-use b k;
   }
     where
       stays : (f : ℕ) → Belongs s e f → Moves s s′ d f → s′ .frame f ≡ s .frame f
@@ -104,6 +105,20 @@ module _ (z : Extent) (s : View) (l : Lists) (ok : Sound z s l) (s′ : View) (l
       at b i k (own-spot kd q) = absurd (ne (apart z s l ok e d b ke kd k q))
       at b i (root r) (spare-spot q) = absurd (q .root e ke r)
       at b i (below g x o r) (spare-spot q) = absurd (q .below g x r)
+
+      -- a record or table that a frame keeps was in use, and is
+      still : (k f : ℕ) (nb : Numbered k) → kind s f ≡ k → kind s′ f ≡ k → number s′ f ≡ number s f → s′ .used (blockOf z nb (number s f)) ≡ s .used (blockOf z nb (number s f))
+      still k f nb kf kf′ n = go (p .numbers k f nb kf′) ∙ sym (ok .used k f nb kf)
+        where
+          go : Numbering z s s′ f nb → s′ .used (blockOf z nb (number s f)) ≡ true
+          go (as-before _ _ u) = u
+          go (afresh u _ _) = rw n at u
+
+      in-use : (b : ℕ) → Block z s e b → s′ .used b ≡ s .used b
+      in-use b (root q) = let y = kept-tdr e ke ne in rw q (still TDR e a-record ke (y .kind ∙ ke) (y .number))
+      in-use b (below g k o q) =
+          let y = same-frame s s′ g (stays g (record { type = omega arith; owner = o }) (p .frames g)) in
+          rw q (still EPT g a-table k (y .kind ∙ k) (y .number))
 
   -- another domain has what it had
   held-same : (e : ℕ) → kind s e ≡ TDR → (e ≡ d → ⊥) → held z s l e ≡ held z s′ l′ e

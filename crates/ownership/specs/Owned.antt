@@ -138,7 +138,7 @@ pub data Block (z : Extent) (s : View) (d b : ℕ) : Type 0 where
   root : b ≡ rootOf z s d → Block z s d b
   below : (g : ℕ) → kind s g ≡ EPT → owner s g ≡ d → b ≡ number s g → Block z s d b
 
--- nothing of domain e moved: its TDR, its record with its control pages, its frames (none lost, none gained), its tree
+-- nothing of domain e moved: its TDR, its record with its control pages, its frames (none lost, none gained), its tree, what it has in use
 pub record Untouched (z : Extent) (s s′ : View) (e : ℕ) : Type 0 where
   pub tdr : s′ .frame e ≡ s .frame e
   pub record′ : s′ .domain (number s e) ≡ s .domain (number s e)
@@ -146,3 +146,5 @@ pub record Untouched (z : Extent) (s s′ : View) (e : ℕ) : Type 0 where
   pub kept : (f : ℕ) → Belongs s e f → s′ .frame f ≡ s .frame f
   pub gained : (f : ℕ) → Belongs s′ e f → Belongs s e f
   pub tree : (b i : ℕ) → Block z s e b → i < z .wide → s′ .entry b i ≡ s .entry b i
+  -- and the in-use bits of its record and tables
+  pub used : (b : ℕ) → Block z s e b → s′ .used b ≡ s .used b
