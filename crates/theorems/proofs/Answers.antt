@@ -3,9 +3,14 @@ use mathlib.Core.Path.{_≡_, refl, sym, subst, _∙_}
 use mathlib.Core.Bool.{Bool, true, false}
 use mathlib.Core.List.{List, [], _∷_}
 use mathlib.Core.Logic.{_⊎_, inl, inr}
-use Prim.Native.Nat.{ℕ}
+use Prim.Native.Nat.{ℕ, _+_, _-_, _≤_}
+use native.Mathlib.Omega.{arith}
+use lib.Dec.{eqb}
+use borrow.Author.Tests.{eqb-true, eqb-false}
 use lib.ListN.{length}
 use Rattle.rules.specs.Rule.{iff}
+use Rattle.rules.proofs.Steps.{iff-both}
+use Rattle.units.specs.Limits.{between}
 use Rattle.gauge.specs.Marks.{marksOk}
 use Rattle.gauge.specs.declared.Gauge.{Gauge}
 use Rattle.range.specs.Range.{lentOk}
@@ -15,44 +20,64 @@ use Rattle.plan.specs.declared.edit.Plan.{Plan}
 use Rattle.plan.specs.declared.edit.Plan.the-variants.{Say, Do}
 use Rattle.carry.specs.Carry.{carried}
 use Rattle.units.specs.declared.address.Hpa.{Hpa}
-use Rattle.ledger.specs.Codes.{TDR}
+use Rattle.ledger.specs.Codes.{TDR, NL-MAPPED, MAPPED, PENDING, NL-BLOCKED, BLOCKED, PENDING-BLOCKED}
 use Rattle.ledger.specs.Tables.{Tables}
 use Rattle.calls.specs.declared.Call.{Call}
 use Rattle.calls.specs.declared.Call.the-variants as call
 use Rattle.plan.specs.Changes.{gain, lose}
+use Rattle.plan.specs.Entries.{blockedState, unblockedState}
 use Rattle.domains.specs.Domains.{lifePlan, opPlan, trackPlan, enlistAt, addcxPlan, newRecord, createAt, createPlan}
 use Rattle.adds.specs.Adds.{freeFor, septAt, pageAt, septaddPlan, pagePlan}
 use Rattle.trees.specs.Trees.{blockAt, blockPlan, unblockAt, unblockPlan, pageremoveAt, pageremovePlan, septremoveAt, septremovePlan, readentryAt, readentryPlan}
 use Rattle.pages.specs.Pages.{reclaimTdr, reclaimChild, reclaimAt, reclaimPlan, readpagePlan}
 use Rattle.host.specs.Calls.{Outcome, outcome, planOf, settled, ruleOf, callOf}
 use Rattle.theorems.specs.Checks.{kindIs, window, ofTdr, ofChild, reads, checksOf, allChecks}
+use Rattle.keeps.specs.Views.{view}
+use Rattle.keeps.proofs.Stores.{newFrame, newDomain, newPage, newEntry, newUse, wipedDomain, wipedPage, wipedEntry}
+use Rattle.keeps.proofs.Ranged.{between-true}
+use Rattle.theorems.specs.Effects.{effectOf}
 use Rattle.theorems.specs.Order.{Reason, tables, marks, operand, emptied, frame, Check, check, firstNo, inOrder, Fails, here, later, Passes, none, one}
-use Rattle.theorems.proofs.Firsts.{numberP, Numbers, window-first, none-besides, frame-besides, parties-first, built-first, spot-first, owner-first, offered-first, reach-first, tracked-first, walk-first, stock-first, child-first, needed, unless, either, both, named-is, done, page-read, entry-read}
+use Rattle.theorems.proofs.Firsts.{numberP, row, Numbers, window-first, none-besides, frame-besides, parties-first, built-first, spot-first, owner-first, offered-first, reach-first, tracked-first, walk-first, stock-first, child-first, needed, unless, either, both, named-is, done, page-read, entry-read}
 
--- a call's plan answers with the number of its first check that fails
-pub plan-first : (base : Hpa) (t : Tables) (c : Call) → Numbers (reads c) (planOf base t c) (checksOf base t c)
-unfolding planOf reads checksOf createPlan createAt newRecord lifePlan opPlan addcxPlan enlistAt gain septaddPlan freeFor septAt pagePlan pageAt blockPlan blockAt trackPlan unblockPlan unblockAt pageremovePlan pageremoveAt lose septremovePlan septremoveAt readpagePlan readentryPlan readentryAt reclaimPlan reclaimAt reclaimTdr reclaimChild
-plan-first base t (call.Create f k) = window-first _ _ _ _ _ (needed _ _ _ (needed _ _ _ (named-is _ _ (named-is _ _ (needed _ _ _ (stock-first _ _ λ b. named-is _ _ (named-is _ _ (done _))))))))
-plan-first base t (call.KeyConfig d) = parties-first _ _ _ _ none-besides (needed _ _ _ (named-is _ _ (done _)))
-plan-first base t (call.AddCx d f) = named-is _ _ (parties-first _ _ _ _ (frame-besides _ _ _ _) (needed _ _ _ (needed _ _ _ (needed _ _ _ (needed _ _ _ (named-is _ _ (done _)))))))
-plan-first base t (call.Init d) = built-first _ _ _ _ _ _ none-besides (named-is _ _ (done _))
-plan-first base t (call.SeptAdd d gpa level f) = named-is _ _ (spot-first _ _ _ _ _ _ _ _ _ (frame-besides _ _ _ _) (offered-first _ _ _ _ (reach-first _ _ _ _ _ _ _ λ b i. named-is _ _ (stock-first _ _ λ table. needed _ _ _ (named-is _ _ (done _))))))
-plan-first base t (call.PageAdd d gpa f) = named-is _ _ (spot-first _ _ _ _ _ _ _ _ _ (frame-besides _ _ _ _) (offered-first _ _ _ _ (reach-first _ _ _ _ _ _ _ λ b i. needed _ _ _ (named-is _ _ (done _)))))
-plan-first base t (call.Finalize d) = built-first _ _ _ _ _ _ none-besides (named-is _ _ (done _))
-plan-first base t (call.PageAug d gpa f) = named-is _ _ (spot-first _ _ _ _ _ _ _ _ _ (frame-besides _ _ _ _) (offered-first _ _ _ _ (reach-first _ _ _ _ _ _ _ λ b i. needed _ _ _ (named-is _ _ (done _)))))
-plan-first base t (call.Block d gpa level) = spot-first _ _ _ _ _ _ _ _ _ none-besides (reach-first _ _ _ _ _ _ _ λ b i. needed _ _ _ (named-is _ _ (named-is _ _ (named-is _ _ (done _)))))
-plan-first base t (call.Track d) = built-first _ _ _ _ _ _ none-besides (needed _ _ _ (named-is _ _ (done _)))
-plan-first base t (call.Unblock d gpa level) = spot-first _ _ _ _ _ _ _ _ _ none-besides (tracked-first frame refl _ _ _ _ _ _ _ λ b i. named-is _ _ (done _))
-plan-first base t (call.PageRemove d gpa) = spot-first _ _ _ _ _ _ _ _ _ none-besides (tracked-first frame refl _ _ _ _ _ _ _ λ b i. unless _ _ _ (named-is _ _ (done _)))
-plan-first base t (call.SeptRemove d gpa level) = spot-first _ _ _ _ _ _ _ _ _ none-besides (tracked-first emptied refl _ _ _ _ _ _ _ λ b i. named-is _ _ (needed _ _ _ (unless _ _ _ (named-is _ _ (done _)))))
-plan-first base t (call.FlushDone d) = parties-first _ _ _ _ none-besides (needed _ _ _ (named-is _ _ (done _)))
-plan-first base t (call.KeyFree d) = parties-first _ _ _ _ none-besides (needed _ _ _ (named-is _ _ (done _)))
+-- a blocked state's code is three above that of the state before
+blocked-code : (s : ℕ) → between NL-MAPPED s PENDING ≡ true → blockedState s ≡ s + 3
+unfolding blockedState
+blocked-code s h =
+    let b : (NL-MAPPED ≤ s) × (s ≤ PENDING) = between-true NL-MAPPED s PENDING h in
+    iff-both (λ (x : ℕ). x ≡ s + 3) (eqb s NL-MAPPED) _ _ (λ e. omega (arith, eqb-true s NL-MAPPED e))
+    (λ n. iff-both (λ (x : ℕ). x ≡ s + 3) (eqb s MAPPED) _ _ (λ e. omega (arith, eqb-true s MAPPED e)) (λ m. omega (arith, b, eqb-false s NL-MAPPED n, eqb-false s MAPPED m)))
+
+unblocked-code : (s : ℕ) → between NL-BLOCKED s PENDING-BLOCKED ≡ true → unblockedState s ≡ s - 3
+unfolding unblockedState
+unblocked-code s h =
+    let b : (NL-BLOCKED ≤ s) × (s ≤ PENDING-BLOCKED) = between-true NL-BLOCKED s PENDING-BLOCKED h in
+    iff-both (λ (x : ℕ). x ≡ s - 3) (eqb s NL-BLOCKED) _ _ (λ e. omega (arith, eqb-true s NL-BLOCKED e))
+    (λ n. iff-both (λ (x : ℕ). x ≡ s - 3) (eqb s BLOCKED) _ _ (λ e. omega (arith, eqb-true s BLOCKED e)) (λ m. omega (arith, b, eqb-false s NL-BLOCKED n, eqb-false s BLOCKED m)))
+
+-- a call's plan answers with the number of its first check that fails, and does its row's effect
+pub plan-first : (base : Hpa) (t : Tables) (c : Call) → Numbers (row (reads c) (view t) (effectOf base t c)) (planOf base t c) (checksOf base t c)
+unfolding planOf reads checksOf effectOf newFrame newDomain newPage newEntry newUse wipedDomain wipedPage wipedEntry createPlan createAt newRecord lifePlan opPlan addcxPlan enlistAt gain septaddPlan freeFor septAt pagePlan pageAt blockPlan blockAt trackPlan unblockPlan unblockAt pageremovePlan pageremoveAt lose septremovePlan septremoveAt readpagePlan readentryPlan readentryAt reclaimPlan reclaimAt reclaimTdr reclaimChild
+plan-first base t (call.Create f k) = window-first _ _ _ _ _ (needed _ _ _ (needed _ _ _ (named-is _ _ (named-is _ _ (needed _ _ _ (stock-first _ _ (named-is _ _ (named-is _ _ (done _ refl)))))))))
+plan-first base t (call.KeyConfig d) = parties-first _ _ _ _ none-besides (needed _ _ _ (named-is _ _ (done _ refl)))
+plan-first base t (call.AddCx d f) = named-is _ _ (parties-first _ _ _ _ (frame-besides _ _ _ _) (needed _ _ _ (needed _ _ _ (needed _ _ _ (needed _ _ _ (named-is _ _ (done _ refl)))))))
+plan-first base t (call.Init d) = built-first _ _ _ _ _ _ none-besides (named-is _ _ (done _ refl))
+plan-first base t (call.SeptAdd d gpa level f) = named-is _ _ (spot-first _ _ _ _ _ _ _ _ _ (frame-besides _ _ _ _) (offered-first _ _ _ _ (reach-first _ _ _ _ _ _ _ λ _. named-is _ _ (stock-first _ _ (needed _ _ _ (named-is _ _ (done _ refl)))))))
+plan-first base t (call.PageAdd d gpa f) = named-is _ _ (spot-first _ _ _ _ _ _ _ _ _ (frame-besides _ _ _ _) (offered-first _ _ _ _ (reach-first _ _ _ _ _ _ _ λ _. needed _ _ _ (named-is _ _ (done _ refl)))))
+plan-first base t (call.Finalize d) = built-first _ _ _ _ _ _ none-besides (named-is _ _ (done _ refl))
+plan-first base t (call.PageAug d gpa f) = named-is _ _ (spot-first _ _ _ _ _ _ _ _ _ (frame-besides _ _ _ _) (offered-first _ _ _ _ (reach-first _ _ _ _ _ _ _ λ _. needed _ _ _ (named-is _ _ (done _ refl)))))
+plan-first base t (call.Block d gpa level) = spot-first _ _ _ _ _ _ _ _ _ none-besides (reach-first _ _ _ _ _ _ _ λ h. needed _ _ _ (named-is _ _ (named-is _ _ (named-is _ _ (done _ (rw (blocked-code _ h) refl))))))
+plan-first base t (call.Track d) = built-first _ _ _ _ _ _ none-besides (needed _ _ _ (named-is _ _ (done _ refl)))
+plan-first base t (call.Unblock d gpa level) = spot-first _ _ _ _ _ _ _ _ _ none-besides (tracked-first frame refl _ _ _ _ _ _ _ λ h. named-is _ _ (done _ (rw (unblocked-code _ h) refl)))
+plan-first base t (call.PageRemove d gpa) = spot-first _ _ _ _ _ _ _ _ _ none-besides (tracked-first frame refl _ _ _ _ _ _ _ λ _. unless _ _ _ (named-is _ _ (done _ refl)))
+plan-first base t (call.SeptRemove d gpa level) = spot-first _ _ _ _ _ _ _ _ _ none-besides (tracked-first emptied refl _ _ _ _ _ _ _ λ _. named-is _ _ (needed _ _ _ (unless _ _ _ (named-is _ _ (done _ refl)))))
+plan-first base t (call.FlushDone d) = parties-first _ _ _ _ none-besides (needed _ _ _ (named-is _ _ (done _ refl)))
+plan-first base t (call.KeyFree d) = parties-first _ _ _ _ none-besides (needed _ _ _ (named-is _ _ (done _ refl)))
 plan-first base t (call.Reclaim f) =
     window-first _ _ _ _ _ (named-is _ _ (unless _ _ _ (either _
-    (owner-first _ _ _ (needed _ _ _ (needed _ _ _ (done _))))
-    (owner-first _ _ _ (needed _ _ _ (child-first _ _ _ (unless _ _ _ (named-is _ _ (done _))) (unless _ _ _ (named-is _ _ (done _)))))))))
+    (owner-first _ _ _ (needed _ _ _ (needed _ _ _ (done _ refl))))
+    (owner-first _ _ _ (needed _ _ _ (child-first _ _ _ (unless _ _ _ (named-is _ _ (done _ refl))) (unless _ _ _ (named-is _ _ (done _ refl)))))))))
 plan-first base t (call.ReadPage f) = window-first _ _ _ _ _ (named-is _ _ (both _ (page-read _ _) (named-is _ _ (page-read _ _))))
-plan-first base t (call.ReadEntry d gpa level) = spot-first _ _ _ _ _ _ _ _ _ none-besides (walk-first _ _ λ b i. named-is _ _ (both _ (entry-read _ _ _) (named-is _ _ (entry-read _ _ _))))
+plan-first base t (call.ReadEntry d gpa level) = spot-first _ _ _ _ _ _ _ _ _ none-besides (walk-first _ _ (named-is _ _ (both _ (entry-read _ _ _) (named-is _ _ (entry-read _ _ _)))))
 
 carried-number : (g : Gauge) (t : Tables) (p : Plan) → numberOf (settled g (carried t p) .answer) ≡ numberP p
 unfolding settled carried numberP valuesOf

@@ -1,5 +1,6 @@
 pub mod Firsts
 pub mod Answers
+pub mod Effects
 pub mod Outcomes
 pub mod Doors
 pub mod Fills

@@ -15,6 +15,7 @@ use Rattle.units.specs.declared.address.Pfn.{Pfn}
 use Rattle.gauge.specs.Marks.{marksOk}
 use Rattle.gauge.specs.declared.Gauge.{Gauge}
 use Rattle.stock.specs.Bits.{inUse, lowestUnused, onLowest}
+use Rattle.stock.specs.declared.bits.Lowest.{Lowest}
 use Rattle.ledger.specs.Codes.{NDA, TDR, EPT, ASSIGNED, CONFIGURED, BLOCKED-LIFE, TEARDOWN, UNINITIALIZED, INITIALIZED, RUNNABLE, FREE, NL-MAPPED, PENDING, NL-BLOCKED, BLOCKED, PENDING-BLOCKED}
 use Rattle.range.specs.Range.{lentOk}
 use Rattle.ledger.specs.Sizes.{tablesOf, bitsOf}
@@ -52,12 +53,22 @@ domainOf t n = record {
 abbrev pub kindIs : Tables → Pfn → ℕ → Bool
 kindIs t n k = eqb (frameAt (t .frames) n .kind) k
 
+-- the bit that a look through the stock found
+unfoldable pub taken : Lowest → ℕ
+taken l = onLowest l 0 λ b. b
+
 -- how a walk ended, and the entry that it arrived at
 unfoldable pub goesOn : Walk → Bool
 goesOn w = onWalk w (λ l s. false) true λ b i. true
 
 unfoldable pub follows : Walk → Bool
 follows w = onWalk w (λ l s. true) false λ b i. true
+
+unfoldable pub block : Walk → ℕ
+block w = onWalk w (λ l s. 0) 0 λ b i. b
+
+unfoldable pub index : Walk → ℕ
+index w = onWalk w (λ l s. 0) 0 λ b i. i
 
 unfoldable pub arrived : Tables → Walk → Entry
 arrived t w = onWalk w (λ l s. entryAt (t .entries) 0 0) (entryAt (t .entries) 0 0) (entryAt (t .entries))

@@ -1,3 +1,4 @@
 pub mod Order
 pub mod Checks
+pub mod Effects
 pub mod Doors

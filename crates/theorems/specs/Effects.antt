@@ -1,0 +1,227 @@
+-- The column "Effect" of "The calls", a row a call: all that stands in the lent tables after an accepted call, read number by number. A row names
+-- the places that the call writes and what it writes there; every other place reads as before. It is said apart from the rules, in the paper's
+-- words and codes: `effects` (proofs/Effects) is the theorem that each accepted call does its row and nothing else.
+use Prim.Native.Nat.{ℕ, _+_, _-_, _%_}
+use mathlib.Core.Bool.{Bool, true, false}
+use lib.ListN.{length}
+use lib.Dec.{eqb}
+use Rattle.rules.specs.Rule.{iff}
+use Rattle.units.specs.Limits.{controlPages, tableEntries}
+use Rattle.units.specs.declared.address.Hpa.{Hpa}
+use Rattle.units.specs.declared.address.Gpa.{Gpa}
+use Rattle.units.specs.declared.address.Pfn.{Pfn}
+use Rattle.stock.specs.Bits.{lowestUnused}
+use Rattle.ledger.specs.Codes.{NDA, TDR, TDCX, EPT, REG, FREE, NL-MAPPED, MAPPED, PENDING}
+use Rattle.ledger.specs.Codes.{ASSIGNED, CONFIGURED, BLOCKED-LIFE, TEARDOWN, UNINITIALIZED, INITIALIZED, RUNNABLE}
+use Rattle.ledger.specs.Sizes.{tablesOf, bitsOf}
+use Rattle.ledger.specs.Tables.{Tables, frameAt}
+use Rattle.ledger.specs.declared.words.Frame.{Frame}
+use Rattle.ledger.specs.declared.words.Domain.{Domain}
+use Rattle.ledger.specs.declared.words.Entry.{Entry}
+use Rattle.walk.specs.declared.Walk.{Walk}
+use Rattle.calls.specs.declared.Call.{Call}
+use Rattle.calls.specs.declared.Call.the-variants as call
+use Rattle.plan.specs.Lookup.{rootIn}
+use Rattle.plan.specs.Entries.{walkOf}
+use Rattle.plan.specs.declared.lookup.Found.{Found}
+use Rattle.keeps.specs.Views.{View, view}
+use Rattle.theorems.specs.Checks.{domainOf, kindIs, window, arrived, block, index, taken}
+
+-- ---- a place that becomes something; the others are as they were
+
+abbrev place : {A : Type 0} → ℕ → A → (ℕ → A) → ℕ → A
+place n v old k = iff (eqb k n) v (old k)
+
+-- place i of row n, a row having `places` places
+abbrev within : {A : Type 0} → ℕ → ℕ → ℕ → A → (ℕ → ℕ → A) → ℕ → ℕ → A
+within places n i v old k j = iff (eqb k n) (iff (eqb (j % places) (i % places)) v (old k j)) (old k j)
+
+-- every place of row n
+abbrev across : {A : Type 0} → ℕ → A → (ℕ → ℕ → A) → ℕ → ℕ → A
+across n v old k j = iff (eqb k n) v (old k j)
+
+abbrev frameTo : Pfn → Frame → View → View
+frameTo n f s = record { frame = place (n .0) f (s .frame); domain = s .domain; control = s .control; entry = s .entry; used = s .used }
+
+abbrev recordTo : ℕ → Domain → View → View
+recordTo r d s = record { frame = s .frame; domain = place r d (s .domain); control = s .control; entry = s .entry; used = s .used }
+
+abbrev pageTo : ℕ → ℕ → Pfn → View → View
+pageTo r i f s = record { frame = s .frame; domain = s .domain; control = within controlPages r i (f .0) (s .control); entry = s .entry; used = s .used }
+
+abbrev entryTo : ℕ → ℕ → Entry → View → View
+entryTo b i e s = record { frame = s .frame; domain = s .domain; control = s .control; entry = within tableEntries b i e (s .entry); used = s .used }
+
+abbrev useTo : ℕ → Bool → View → View
+useTo b on s = record { frame = s .frame; domain = s .domain; control = s .control; entry = s .entry; used = place b on (s .used) }
+
+-- ---- what a frame, an entry and a record become
+
+abbrev none : Pfn
+none = record { 0 = 0 }
+
+-- of a kind, with an owner and a record's or a table's number: a new frame's epoch and size are 0
+abbrev frame : ℕ → Pfn → ℕ → Frame
+frame k o n = record { kind = k; owner = o; number = n; epoch = 0; size = 0 }
+
+-- "A frame that becomes NDA loses owner, epoch and numbers (zero)."
+abbrev nda : Frame
+nda = frame NDA none 0
+
+abbrev since : Frame → ℕ → Frame
+since f e = record { kind = f .kind; owner = f .owner; number = f .number; epoch = e; size = f .size }
+
+abbrev entry : ℕ → Pfn → Entry
+entry s f = record { state = s; frame = f }
+
+abbrev freeEntry : Entry
+freeEntry = entry FREE none
+
+abbrev life : ℕ → Domain → Domain
+life l d = record { key = d .key; life = l; op = d .op; listed = d .listed; children = d .children; epoch = d .epoch; width = d .width }
+
+abbrev op : ℕ → Domain → Domain
+op o d = record { key = d .key; life = d .life; op = o; listed = d .listed; children = d .children; epoch = d .epoch; width = d .width }
+
+abbrev epoch : ℕ → Domain → Domain
+epoch e d = record { key = d .key; life = d .life; op = d .op; listed = d .listed; children = d .children; epoch = e; width = d .width }
+
+abbrev listed : ℕ → Domain → Domain
+listed n d = record { key = d .key; life = d .life; op = d .op; listed = n; children = d .children; epoch = d .epoch; width = d .width }
+
+abbrev children : ℕ → Domain → Domain
+children c d = record { key = d .key; life = d .life; op = d .op; listed = d .listed; children = c; epoch = d .epoch; width = d .width }
+
+abbrev newDomain : ℕ → Domain
+newDomain key = record { key = key; life = ASSIGNED; op = UNINITIALIZED; listed = 0; children = 0; epoch = 1; width = 0 }
+
+abbrev noDomain : Domain
+noDomain = record { key = 0; life = 0; op = 0; listed = 0; children = 0; epoch = 0; width = 0 }
+
+-- "wiped when taken, left as it is when given back": a table, and a record with its control pages and its root
+abbrev wipeBlock : ℕ → View → View
+wipeBlock b s = record { frame = s .frame; domain = s .domain; control = s .control; entry = across b freeEntry (s .entry); used = s .used }
+
+abbrev wipePages : ℕ → View → View
+wipePages r s = record { frame = s .frame; domain = s .domain; control = across r 0 (s .control); entry = s .entry; used = s .used }
+
+abbrev takeTable : ℕ → View → View
+takeTable b s = wipeBlock b (useTo b true s)
+
+abbrev takeRecord : ℕ → ℕ → ℕ → View → View
+takeRecord r bit root s = recordTo r noDomain (wipePages r (wipeBlock root (useTo bit true s)))
+
+abbrev giveBack : ℕ → View → View
+giveBack b s = useTo b false s
+
+-- ---- the rows
+module _ (base : Hpa) (t : Tables) where
+  -- D's record becomes what f makes of it
+  abbrev record′ : Found → (Domain → Domain) → View → View
+  record′ x f s = recordTo (x .rec) (f (x .dom)) s
+
+  abbrev at : Hpa → Found
+  at d = domainOf t (window base t d)
+
+  abbrev domain : Hpa → (Domain → Domain) → View
+  domain d f = record′ (at d) f (view t)
+
+  abbrev oneMore : Domain → Domain
+  oneMore d = children (d .children + 1) d
+
+  abbrev oneLess : Domain → Domain
+  oneLess d = children (d .children - 1) d
+
+  abbrev walk : Hpa → Gpa → ℕ → Walk
+  walk d gpa level = walkOf t (at d) gpa level
+
+  -- the entry that the walk arrives at becomes e
+  abbrev entryOn : Walk → Entry → View → View
+  entryOn w e s = entryTo (block w) (index w) e s
+
+  -- F becomes a frame of D's tree, one more child, at an entry of a state
+  abbrev joins : Found → Walk → Pfn → ℕ → ℕ → ℕ → View → View
+  joins x w f kind number state s = frameTo f (frame kind (x .tdr) number) (record′ x oneMore (entryOn w (entry state f) s))
+
+  -- D loses the frame n
+  abbrev leaves : Found → Pfn → View → View
+  leaves x n s = frameTo n nda (record′ x oneLess s)
+
+  -- F becomes TDR; a new record, HKID assigned, uninitialized, epoch 1
+  abbrev creates : Pfn → ℕ → ℕ → ℕ → View
+  creates f key bit r = frameTo f (frame TDR none r) (recordTo r (newDomain key) (takeRecord r bit (rootIn t r) (view t)))
+
+  abbrev firstBit : ℕ
+  firstBit = tablesOf (length (t .domains)) (length (t .entries))
+
+  abbrev newBit : ℕ
+  newBit = taken (lowestUnused (t .stock) firstBit (bitsOf (length (t .domains)) (length (t .entries))))
+
+  abbrev newTable : ℕ
+  newTable = taken (lowestUnused (t .stock) 0 firstBit)
+
+  -- F becomes TDCX, listed as the next control page
+  abbrev enlists : Found → Pfn → View
+  enlists x f = frameTo f (frame TDCX (x .tdr) 0) (pageTo (x .rec) (x .dom .listed) f (record′ x (λ d. listed (d .listed + 1) (oneMore d)) (view t)))
+
+  abbrev adds : Hpa → Gpa → Hpa → ℕ → View
+  adds d gpa f state = joins (at d) (walk d gpa 0) (window base t f) REG 0 state (view t)
+
+  -- the walk's entry gets another state and keeps its frame
+  abbrev turns : Walk → ℕ → View → View
+  turns w state s = entryOn w (entry state (arrived t w .frame)) s
+
+  -- codes 4, 5 and 6 are those of 1, 2 and 3, blocked
+  abbrev blocks : Found → Walk → Pfn → View
+  blocks x w n = frameTo n (since (frameAt (t .frames) n) (x .dom .epoch)) (turns w (arrived t w .state + 3) (view t))
+
+  abbrev unblocks : Walk → View
+  unblocks w = turns w (arrived t w .state - 3) (view t)
+
+  -- D loses the frame of the walk's entry, and the entry becomes FREE
+  abbrev removes : Found → Walk → View → View
+  removes x w s = leaves x (arrived t w .frame) (entryOn w freeEntry s)
+
+  -- the number of the table that an EPT frame has
+  abbrev tableOf : Pfn → ℕ
+  tableOf n = frameAt (t .frames) n .number
+
+  abbrev reclaims : Pfn → View
+  reclaims n =
+      iff (kindIs t n TDR)
+      (frameTo n nda (giveBack (domainOf t n .bit) (view t)))
+      (iff (kindIs t n EPT)
+      (leaves (domainOf t (frameAt (t .frames) n .owner)) n (giveBack (tableOf n) (view t)))
+      (leaves (domainOf t (frameAt (t .frames) n .owner)) n (view t)))
+
+  unfoldable pub effectOf : Call → View
+  effectOf (call.Create f key) = creates (window base t f) key newBit (newBit - firstBit)
+  -- keys configured
+  effectOf (call.KeyConfig d) = domain d (life CONFIGURED)
+  effectOf (call.AddCx d f) = enlists (at d) (window base t f)
+  -- initialized
+  effectOf (call.Init d) = domain d (op INITIALIZED)
+  -- F becomes EPT with a table; entry NL_MAPPED
+  effectOf (call.SeptAdd d gpa level f) = joins (at d) (walk d gpa level) (window base t f) EPT newTable NL-MAPPED (takeTable newTable (view t))
+  -- F becomes REG; entry MAPPED, and PENDING
+  effectOf (call.PageAdd d gpa f) = adds d gpa f MAPPED
+  -- runnable
+  effectOf (call.Finalize d) = domain d (op RUNNABLE)
+  effectOf (call.PageAug d gpa f) = adds d gpa f PENDING
+  -- entry 4, 5 or 6; its frame's epoch := the domain's
+  effectOf (call.Block d gpa level) = blocks (at d) (walk d gpa level) (arrived t (walk d gpa level) .frame)
+  -- epoch + 1
+  effectOf (call.Track d) = domain d (λ x. epoch (x .epoch + 1) x)
+  -- entry 1, 2 or 3
+  effectOf (call.Unblock d gpa level) = unblocks (walk d gpa level)
+  -- frame NDA, entry FREE
+  effectOf (call.PageRemove d gpa) = removes (at d) (walk d gpa 0) (view t)
+  -- frame NDA, table given back, entry FREE
+  effectOf (call.SeptRemove d gpa level) = removes (at d) (walk d gpa level) (giveBack (tableOf (arrived t (walk d gpa level) .frame)) (view t))
+  -- blocked; teardown
+  effectOf (call.FlushDone d) = domain d (life BLOCKED-LIFE)
+  effectOf (call.KeyFree d) = domain d (life TEARDOWN)
+  -- F NDA; its table or record given back
+  effectOf (call.Reclaim f) = reclaims (window base t f)
+  effectOf (call.ReadPage f) = view t
+  effectOf (call.ReadEntry d gpa level) = view t
