@@ -2,77 +2,27 @@
 //! is and with one place changed. What is expected was written from the paper.
 
 mod common;
+mod words;
 
-use reefnettle_compare::{number, Answer, Gauge, Gpa, Hpa, Level, Parts, Request, FRAME_BYTES};
+use reefnettle_compare::{number, Answer, Gpa, Hpa, Level, Parts, Request};
+use words::{at, frame, put_entry, scalars, EPT, MAPPED, NL_MAPPED, REG, ROOT, TDCX, TDR};
 
-const BASE: Hpa = Hpa(1 << 30);
-
-// Frame types.
+// A frame type and states that no word of the small state has.
 const NDA: u64 = 0;
-const TDR: u64 = 1;
-const TDCX: u64 = 2;
-const EPT: u64 = 3;
-const REG: u64 = 4;
-
-// States of an entry.
 const FREE: u32 = 0;
-const NL_MAPPED: u32 = 1;
-const MAPPED: u32 = 2;
 const NL_BLOCKED: u32 = 4;
 const PENDING_BLOCKED: u32 = 6;
 
-/// The root of record 0 is the block behind the four tables.
-const ROOT: usize = 4;
-
 /// Entry 1 of the root, 2, 3 and 4 of the tables below.
 const PAGE: Gpa = Gpa(1 << 39 | 2 << 30 | 3 << 21 | 4 << 12);
-
-/// A frame's word, as `docs/TABLES.md` has it.
-fn frame(kind: u64, owner: u64, number: u64, epoch: u64) -> u64 {
-    kind | owner << 3 | number << 17 | epoch << 25
-}
-
-/// A record's word of scalars.
-fn scalars(key: u64, life: u64, op: u64, listed: u64, children: u64, epoch: u64) -> u64 {
-    key | life << 7 | op << 10 | listed << 12 | children << 15 | epoch << 30
-}
-
-fn at(frame: u64) -> Hpa {
-    Hpa(BASE.0 + FRAME_BYTES * frame)
-}
-
-fn put_entry(lent: &mut Parts, block: usize, index: usize, state: u32, frame: u32) {
-    lent.entries[512 * block + index] = state | frame << 3;
-}
 
 fn put_page(lent: &mut Parts, listed: u64, page: u64) {
     lent.domains[0] = scalars(32, 1, 1, listed, 8, 1);
     lent.domains[4] = page;
 }
 
-/// A state in range: frames 512, record 1, tables 4. Frame 0 is a TDR, 1 to 4
-/// are its control pages, 5 to 7 its tables 0 to 2, one below the other, and 8
-/// is its page. Table 3 is unused.
 fn small() -> Parts {
-    let mut lent = Parts {
-        base: BASE,
-        frames: vec![0; 512],
-        domains: vec![scalars(32, 1, 1, 4, 8, 1), 1, 2, 3, 4],
-        stock: vec![1 << ROOT | 0b111],
-        entries: vec![0; 512 * 5],
-        gauge: Gauge::FRESH,
-    };
-    lent.frames[0] = frame(TDR, 0, 0, 0);
-    lent.frames[1..5].fill(frame(TDCX, 0, 0, 0));
-    for table in 0..3 {
-        lent.frames[5 + table] = frame(EPT, 0, table as u64, 0);
-    }
-    lent.frames[8] = frame(REG, 0, 0, 0);
-    put_entry(&mut lent, ROOT, 1, NL_MAPPED, 5);
-    put_entry(&mut lent, 0, 2, NL_MAPPED, 6);
-    put_entry(&mut lent, 1, 3, NL_MAPPED, 7);
-    put_entry(&mut lent, 2, 4, MAPPED, 8);
-    lent
+    words::tree([1, 2, 3, 4])
 }
 
 /// Looks at every lent word and reads the TDR.
