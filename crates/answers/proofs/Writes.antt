@@ -6,7 +6,7 @@ use native.Mathlib.Omega.{arith}
 use borrow.Author.Tests.{lt-ltb, le-ltb}
 use lib.ListN.{length, getD, take, drop, drop-of-length-le, length-append}
 use lib.Seq.{set-append-seam, take-nil, drop-nil}
-use Rattle.rules.specs.Rule.{iff}
+use Rattle.rules.specs.Rule.{choose}
 use Rattle.answers.specs.Answers.{Pen, pen, wroteByte, wrote, readOut, lineWith, pairsLine}
 use Rattle.calls.specs.declared.Answer.{Answer}
 use Rattle.calls.specs.declared.Values.{Values}
@@ -74,12 +74,12 @@ same e f = rw (e, f)
 
 -- a byte where there is no room, and where there is
 no-room : (done : List ℕ) (b : ℕ) → wroteByte b (pen (done ++ []) (length done)) ≡ pen (done ++ []) (length done)
-unfolding wroteByte iff
+unfolding wroteByte choose
 no-room done b = rw (append-nil, le-ltb (length done) (length done) (omega arith))
 
 room : (done : List ℕ) (x : ℕ) (rest : List ℕ) (b : ℕ)
     → wroteByte b (pen (done ++ (x ∷ rest)) (length done)) ≡ pen ((done ++ (b ∷ [])) ++ rest) (length (done ++ (b ∷ [])))
-unfolding wroteByte iff
+unfolding wroteByte choose
 room done x rest b =
     let h : length done < length (done ++ (x ∷ rest)) = omega (arith, length-append done (x ∷ rest)) in
     rw (lt-ltb _ _ h, set-append-seam, append-assoc, length-append)

@@ -4,7 +4,7 @@ use mathlib.Core.Bool.{Bool}
 use mathlib.Core.List.{List, [], _∷_, _++_}
 use lib.Dec.{ltb}
 use lib.ListN.{length, set}
-use Rattle.rules.specs.Rule.{iff}
+use Rattle.rules.specs.Rule.{choose}
 use Rattle.units.specs.Limits.{frameBytes}
 use Rattle.units.specs.declared.address.Hpa.{Hpa}
 use Rattle.calls.specs.Answers.{numberOf}
@@ -23,7 +23,7 @@ pen b n = record { buffer = b; at = n }
 
 -- a byte is written where there is room for it
 unfoldable pub wroteByte : ℕ → Pen → Pen
-wroteByte b p = iff (ltb (p .at) (length (p .buffer))) (pen (set (p .buffer) (p .at) b) (p .at + 1)) p
+wroteByte b p = choose (ltb (p .at) (length (p .buffer))) (pen (set (p .buffer) (p .at) b) (p .at + 1)) p
 
 unfoldable pub wrote : List ℕ → Pen → Pen
 wrote [] p = p
@@ -73,7 +73,7 @@ firstLine frames = pairsLine (bytes "bytes\t") frameBytes (bytes "\tframes\t") f
 
 -- "used 2 lamp 0"
 abbrev pub lampNumber : Bool → ℕ
-lampNumber lamp = iff lamp 1 0
+lampNumber lamp = choose lamp 1 0
 
 abbrev pub lastLine : ℕ → Bool → List ℕ
 lastLine used lamp = pairsLine (bytes "used\t") used (bytes "\tlamp\t") (lampNumber lamp)

@@ -4,7 +4,7 @@ use mathlib.Core.Bool.{true}
 use mathlib.Core.List.{List, [], _∷_}
 use lib.ListN.{length}
 use lib.Count.{ones}
-use Rattle.rules.specs.Rule.{iff, given}
+use Rattle.rules.specs.Rule.{choose, given}
 use Rattle.rules.specs.Upto.{allFrom}
 use Rattle.units.specs.Limits.{between, framesOk, baseOk}
 use Rattle.units.specs.Address.{frameOf, hpaOf}
@@ -39,7 +39,7 @@ use Rattle.cases.specs.Cases.{base, fresh, run, Case, Right, AllRight, l
 -- where 13 has nothing to say, the answer is the plan's
 past-13 : (t : Tables) (g : Gauge) (c : Call) → length (t .frames) ≡ 1024 → lentOk base t ≡ true → g .raise ≡ ratio 768 1024 → g .clear ≡ ratio 512 1024
     → callOf base t g c .answer ≡ carried t (planOf base t c) .answer
-unfolding callOf ruleOf settled iff
+unfolding callOf ruleOf settled choose
 past-13 t g c n l r k = rw (l, r, k, n, program-ok)
 
 -- ---- and it has nothing to say of the tables on the way: no call leaves tables out of range that were in it
@@ -49,7 +49,7 @@ run-ok t ok [] = ok
 run-ok t ok (c ∷ cs) = run-ok (carried t (planOf base t c) .tables) (rule-keeps base t ok reset c) cs
 
 start : lentOk base fresh ≡ true
-unfolding sizesOk sizesOf tablesOf lengthsOk framesOk baseOk between ones given iff
+unfolding sizesOk sizesOf tablesOf lengthsOk framesOk baseOk between ones given choose
 start = of-lent base fresh (zeros-lent base fresh refl)
 
 checked : (c : Case) → length (run fresh (c .before) .frames) ≡ 1024
@@ -58,5 +58,5 @@ checked c n e = λ g r k. ap valuesOf (past-13 (run fresh (c .before)) g (c .the
 
 -- Every marked case of the paper answers as it says.
 pub marked-right : AllRight marked
-unfolding AllRight marked iff given between frameOf hpaOf rowOf gpaFits indexAt wordOf bitSet inUse withBit setUse lowestFrom lowestUnused onLowest wipedAt frameAt setFrame recordWord setRecordWord domainAt setDomain pageAt setPage entryAt setEntry tablesOf rootOf sizesOf entryType ownFrame walkFrom onWalk valuesOf onPlace onOperand onLookup frameOperand domainFor builtFor gain lose trackPlan enlistAt addcxPlan otherKey keyUnused newRecord createAt createPlan entryFor onReach blockedState isTracked septAt adds.pageAt septaddPlan pagePlan blockAt blockPlan pageremoveAt pageremovePlan readpagePlan afterFrame afterPage afterDomain afterEntry afterUse afterRecord afterBlock applied carried planOf run allFrom bitOf onParties isNda partiesFor spotOperand spotFor lifePlan opPlan freeFor trackedFor
+unfolding AllRight marked choose given between frameOf hpaOf rowOf gpaFits indexAt wordOf bitSet inUse withBit setUse lowestFrom lowestUnused onLowest wipedAt frameAt setFrame recordWord setRecordWord domainAt setDomain pageAt setPage entryAt setEntry tablesOf rootOf sizesOf entryType ownFrame walkFrom onWalk valuesOf onPlace onOperand onLookup frameOperand domainFor builtFor gain lose trackPlan enlistAt addcxPlan otherKey keyUnused newRecord createAt createPlan entryFor onReach blockedState isTracked septAt adds.pageAt septaddPlan pagePlan blockAt blockPlan pageremoveAt pageremovePlan readpagePlan afterFrame afterPage afterDomain afterEntry afterUse afterRecord afterBlock applied carried planOf run allFrom bitOf onParties isNda partiesFor spotOperand spotFor lifePlan opPlan freeFor trackedFor
 marked-right = (checked line1 refl refl, (checked line2 refl refl, (checked line3 refl refl, (checked line4 refl refl, (checked line6 refl refl, (checked line7 refl refl, (checked line8 refl refl, (checked line9 refl refl, (checked gpaFits1 refl refl, (checked gpaUnaligned refl refl, (checked gpaTooBig refl refl, (checked notTracked refl refl, (checked trackedNow refl refl, tt)))))))))))))

@@ -1,10 +1,10 @@
 -- The calls on a domain's record, a row of "The calls" each.
 use Prim.Native.Nat.{ℕ, _+_, _-_}
-use mathlib.Core.Bool.{Bool, true}
+use mathlib.Core.Bool.{Bool}
 use mathlib.Core.List.{List}
 use lib.ListN.{length}
 use lib.Dec.{eqb, ltb}
-use Rattle.rules.specs.Rule.{need, given}
+use Rattle.rules.specs.Rule.{implies, need, given}
 use Rattle.rules.specs.Upto.{allFrom}
 use Rattle.units.specs.Limits.{between, controlPages, epochLeast, epochMost, keyOk}
 use Rattle.units.specs.declared.address.Hpa.{Hpa}
@@ -82,10 +82,10 @@ addcxPlan base t d f =
 -- "no domain before teardown has the key": any record in use and not in teardown. Record r has the in-use bit `first + r`
 unfoldable pub otherKey : List ℕ → List ℕ → ℕ → ℕ → ℕ → Bool
 otherKey ds st first key bit =
-    need (inUse st bit) true (
+    implies (inUse st bit) (
     given (bit - first) λ r.
     given (domainAt ds r) λ d.
-    need (eqb (d .key) key) true
+    implies (eqb (d .key) key)
     (eqb (d .life) TEARDOWN))
 
 unfoldable pub keyUnused : List ℕ → List ℕ → ℕ → ℕ → ℕ → Bool

@@ -4,7 +4,7 @@ use Prim.Native.Nat.{ℕ, _+_}
 use mathlib.Core.List.{List}
 use lib.ListN.{set}
 use lib.Dec.{eqb, leb, ltb}
-use Rattle.rules.specs.Rule.{iff, need}
+use Rattle.rules.specs.Rule.{choose, need}
 use Rattle.feed.specs.declared.Feed.{Feed}
 use Rattle.feed.specs.declared.Turn.{Turn}
 use Rattle.feed.specs.declared.Turn.the-variants.{Hold, Ends, Stop}
@@ -16,12 +16,12 @@ feed n h = record { lines = n; held = h }
 unfoldable pub turnOf : Feed → ℕ → Turn
 turnOf f byte =
     need (ltb (f .lines) 10000) Stop (
-    iff (eqb byte 10) (Ends (feed (f .lines + 1) 0)) (
-    iff (leb 121 (f .held)) (Hold f)
+    choose (eqb byte 10) (Ends (feed (f .lines + 1) 0)) (
+    choose (leb 121 (f .held)) (Hold f)
     (Hold (feed (f .lines) (f .held + 1)))))
 
 unfoldable pub heldAfter : List ℕ → ℕ → ℕ → List ℕ
 heldAfter buffer held byte = set buffer held byte
 
 unfoldable pub least : ℕ → ℕ → ℕ
-least a b = iff (leb a b) a b
+least a b = choose (leb a b) a b

@@ -12,7 +12,7 @@ use lib.Ieee.Bits.{ofBits-toBits}
 use lib.Ieee.Exact.{HasValue}
 use lib.Ieee.Scale.{round-same}
 use borrow.Author.Tests.{le-leb, lt-ltb, leb-true, ltb-true}
-use Rattle.rules.specs.Rule.{iff, given}
+use Rattle.rules.specs.Rule.{choose, given}
 use Rattle.rules.proofs.Steps.{both-left, both-right, if-true}
 use Rattle.rules.proofs.Uptos.{any-at}
 use Rattle.units.specs.Limits.{framesOk}
@@ -82,19 +82,19 @@ marks-of raise clear n R C e =
 
 module _ (n : ℕ) (F : framesOk n ≡ true) where
   pub of-marks : (raise clear : Float) → Marks raise clear n → marksOk raise clear n ≡ true
-  unfolding marksOk iff
+  unfolding marksOk choose
   of-marks raise clear m =
       rw (of-mark raise n F (m .high), of-mark clear n F (m .low), mark-le n F clear raise (m .low) (m .high), mark-above n F raise (m .high), le-leb _ _ (m .order))
       (lt-ltb _ _ (m .above))
 
   -- ---- the lamp by counts: at the raise mark's or more frames in use it is lit, below the clear mark's it is put out
   pub lamp-counts : (raise clear fill : Float) (p : Mark raise n) (q : Mark clear n) (u : Mark fill n) (was : Bool)
-      → lampAfter raise clear fill was ≡ iff (leb (p .0) (u .0)) true (iff (ltb (u .0) (q .0)) false was)
+      → lampAfter raise clear fill was ≡ choose (leb (p .0) (u .0)) true (choose (ltb (u .0) (q .0)) false was)
   unfolding lampAfter
   lamp-counts raise clear fill p q u was = rw (mark-le n F raise fill p u, mark-lt n F fill clear u q)
 
   pub after-counts : (g : Gauge) (m : Marks (g .raise) (g .clear) n) (u : ℕ) → u ≤ n
-      → after g u n .lamp ≡ iff (leb (m .high .0) u) true (iff (ltb u (m .low .0)) false (g .lamp))
+      → after g u n .lamp ≡ choose (leb (m .high .0) u) true (choose (ltb u (m .low .0)) false (g .lamp))
   after-counts g m u U = lamp-counts (g .raise) (g .clear) (ratio u n) (m .high) (m .low) (u, U, refl) (g .lamp)
 
   pub marked-counts : (raise clear : Float) (m : Marks raise clear n) (u : ℕ) → u ≤ n → marked raise clear u n .lamp ≡ leb (m .high .0) u
@@ -137,25 +137,25 @@ program-ok = of-marks 1024 program-frames _ _ (record { high = (768, lit≤ tt, 
 
 -- the next float above 0.75, and half a frame, are no marks
 pub next-no-mark : isMark (ofBits binary64 0x3fe8_0000_0000_0001) 1024 ≡ false
-unfolding iff given sameBits cutTo fits ofBits toBits ofInt div mul lt toUnsigned isNan
+unfolding choose given sameBits cutTo fits ofBits toBits ofInt div mul lt toUnsigned isNan
 next-no-mark = mark-tried (ofBits binary64 0x3fe8_0000_0000_0001) 1024 refl ∙ rw program-frames
 
 pub half-no-mark : isMark (ratio 1 2048) 1024 ≡ false
-unfolding iff given sameBits cutTo fits ofBits toBits ofInt div mul lt toUnsigned isNan
+unfolding choose given sameBits cutTo fits ofBits toBits ofInt div mul lt toUnsigned isNan
 half-no-mark = mark-tried (ratio 1 2048) 1024 refl ∙ rw program-frames
 
 -- the lamp at u of 1024 frames
-at : (u : ℕ) → u ≤ 1024 → (was : Bool) → lampAfter (ratio 768 1024) (ratio 512 1024) (ratio u 1024) was ≡ iff (leb 768 u) true (iff (ltb u 512) false was)
+at : (u : ℕ) → u ≤ 1024 → (was : Bool) → lampAfter (ratio 768 1024) (ratio 512 1024) (ratio u 1024) was ≡ choose (leb 768 u) true (choose (ltb u 512) false was)
 at u U was = lamp-counts 1024 program-frames _ _ _ (768, lit≤ tt, refl) (512, lit≤ tt, refl) (u, U, refl) was
 
 pub lamp-768 : (was : Bool) → lampAfter (ratio 768 1024) (ratio 512 1024) (ratio 768 1024) was ≡ true
-unfolding iff
+unfolding choose
 lamp-768 was = at 768 (lit≤ tt) was
 
 pub lamp-512 : (was : Bool) → lampAfter (ratio 768 1024) (ratio 512 1024) (ratio 512 1024) was ≡ was
-unfolding iff
+unfolding choose
 lamp-512 was = at 512 (lit≤ tt) was
 
 pub lamp-511 : (was : Bool) → lampAfter (ratio 768 1024) (ratio 512 1024) (ratio 511 1024) was ≡ false
-unfolding iff
+unfolding choose
 lamp-511 was = at 511 (lit≤ tt) was

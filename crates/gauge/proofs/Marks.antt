@@ -13,9 +13,9 @@ use lib.Ieee.Bits.{ofBits-toBits}
 use lib.Ieee.Exact.{HasValue}
 use lib.Ieee.Back.{unsigned-back}
 use borrow.Author.Tests.{lt-ltb, leb-true, eq-eqb, eqb-true}
-use Rattle.rules.specs.Rule.{iff, given}
+use Rattle.rules.specs.Rule.{choose, given}
 use Rattle.rules.specs.Upto.{anyFrom}
-use Rattle.rules.proofs.Steps.{iff-both, both-right, if-true, if-false, if-le, given-by}
+use Rattle.rules.proofs.Steps.{choose-both, both-right, if-true, if-false, if-le, given-by}
 use Rattle.rules.proofs.Uptos.{any-at, at-any}
 use Rattle.units.specs.Limits.{framesOk}
 use Rattle.gauge.specs.Fill.{ratio}
@@ -51,7 +51,7 @@ same-of x y p q e =
     sym (ofBits-toBits binary64 x p) ∙ rw bits (ofBits-toBits binary64 y q)
 
 same-self : (x : Float) → isNan x ≡ false → sameBits x x ≡ true
-unfolding sameBits iff
+unfolding sameBits choose
 same-self x e = rw (e, eq-eqb (toBits binary64 x) (toBits binary64 x) refl)
 
 -- ---- a whole number's float lies between -1 and 2 ^ 64
@@ -114,7 +114,7 @@ count-within : (x : Float) (n : ℕ) → countOf x n ≤ n
 unfolding cutTo given
 count-within x n =
     let P : ℕ → Type 0 = λ (r : ℕ). r ≤ n in
-    iff-both P _ _ _ (λ h. iff-both P _ _ _ (λ h. iff-both P _ _ _ (λ h. leb-true _ _ h) (λ h. zero-le)) (λ h. zero-le)) (λ h. zero-le)
+    choose-both P _ _ _ (λ h. choose-both P _ _ _ (λ h. choose-both P _ _ _ (λ h. leb-true _ _ h) (λ h. zero-le)) (λ h. zero-le)) (λ h. zero-le)
 
 -- a float with the bits of a ratio is that ratio, and its count is the one that is tried
 module _ (x : Float) (n : ℕ) (X : fits binary64 x ≡ true) where
@@ -126,8 +126,8 @@ module _ (x : Float) (n : ℕ) (X : fits binary64 x ≡ true) where
   tried : framesOk n ≡ true → Mark x n → sameBits x (ratio (countOf x n) n) ≡ true
   tried F m = rw (← count-of-mark n F x m) (mark-same n F x m)
 
-  pub mark-tried : isMark x n ≡ iff (framesOk n) (sameBits x (ratio (countOf x n) n)) false
+  pub mark-tried : isMark x n ≡ choose (framesOk n) (sameBits x (ratio (countOf x n) n)) false
   unfolding isMark
-  mark-tried = iff-both (λ (t : Bool). t ≡ iff (framesOk n) (sameBits x (ratio (countOf x n) n)) false) (framesOk n) _ _
+  mark-tried = choose-both (λ (t : Bool). t ≡ choose (framesOk n) (sameBits x (ratio (countOf x n) n)) false) (framesOk n) _ _
       (λ F. if-true false F (same-test _ _ (λ e. tried F (found e)) (λ e. any-at _ (n + 1) (countOf x n) (let h = count-within x n in omega arith) e)))
       (λ F. if-false _ F refl)

@@ -7,7 +7,7 @@ use native.Mathlib.Omega.{arith}
 use lib.Pow.{pow-pos, pow-mono, pow-lt}
 use lib.Count.{ones, ones-step, ones-cat}
 use borrow.Author.Tests.{eqb-true, leb-true, le-leb}
-use Rattle.rules.specs.Rule.{iff}
+use Rattle.rules.specs.Rule.{choose}
 use Rattle.rules.proofs.Steps.{both-left, both-right}
 use Rattle.units.specs.Limits.{between, framesOk, leastExponent, mostExponent}
 
@@ -64,5 +64,5 @@ frames-power n e =
     (p .0, exponent-le leastExponent (p .0) (rw (p .1) at lo), exponent-le (p .0) mostExponent (rw (p .1) at hi), p .1)
 
 pub power-frames : (k : ℕ) → leastExponent ≤ k → k ≤ mostExponent → framesOk (2 ^ k) ≡ true
-unfolding framesOk between iff
+unfolding framesOk between choose
 power-frames k lo hi = rw (ones-of-power, le-leb _ _ (pow-mono {i = leastExponent} lo), le-leb _ _ (pow-mono {j = mostExponent} hi))

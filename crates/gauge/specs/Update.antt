@@ -3,14 +3,14 @@ use mathlib.Core.Bool.{Bool, true, false}
 use Prim.Native.Nat.{ℕ}
 use lib.IntN.{pos}
 use lib.Ieee.{Float, fin, le, lt}
-use Rattle.rules.specs.Rule.{iff}
+use Rattle.rules.specs.Rule.{choose}
 use Rattle.gauge.specs.declared.Gauge.{Gauge}
 use Rattle.gauge.specs.Fill.{ratio}
 use Rattle.gauge.specs.Marks.{zeroMark}
 
 -- "at or above raise it lights the lamp, below clear it puts it out, otherwise the lamp stays"
 unfoldable pub lampAfter : Float → Float → Float → Bool → Bool
-lampAfter raise clear fill was = iff (le raise fill) true (iff (lt fill clear) false was)
+lampAfter raise clear fill was = choose (le raise fill) true (choose (lt fill clear) false was)
 
 -- "An accepted call stores the new fill" and the lamp
 abbrev pub after : Gauge → ℕ → ℕ → Gauge

@@ -4,7 +4,7 @@ use mathlib.Core.List.{List}
 use lib.ListN.{length, replicate}
 use lib.Dec.{eqb}
 use lib.Ieee.{Float}
-use Rattle.rules.specs.Rule.{need, given}
+use Rattle.rules.specs.Rule.{choose, need, given}
 use Rattle.units.specs.declared.address.Hpa.{Hpa}
 use Rattle.gauge.specs.Marks.{marksOk}
 use Rattle.gauge.specs.Update.{after, marked, fresh}
@@ -59,9 +59,9 @@ outcome a t g = record { answer = a; tables = t; gauge = g }
 unfoldable pub gaugeAfter : Gauge → Answer → List ℕ → Gauge
 gaugeAfter g a fs =
     given (valuesOf a) λ v.
-    need (eqb (v .number) 0) g (
-    given (usedFrames fs) λ used.
-    after g used (length fs))
+    choose (eqb (v .number) 0)
+    (given (usedFrames fs) λ used. after g used (length fs))
+    g
 
 unfoldable pub settled : Gauge → Carried → Outcome
 settled g c = outcome (c .answer) (c .tables) (gaugeAfter g (c .answer) (c .tables .frames))

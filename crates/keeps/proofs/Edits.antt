@@ -8,8 +8,8 @@ use native.Mathlib.Decide.{ℕ-discrete, decLt}
 use lib.Dec.{eqb}
 use lib.ListN.{length}
 use borrow.Author.Tests.{eqb-true, ltb-true, leb-true, eq-eqb, ne-eqb, lt-ltb, le-ltb}
-use Rattle.rules.specs.Rule.{iff}
-use Rattle.rules.proofs.Steps.{iff-both, both-left, both-right}
+use Rattle.rules.specs.Rule.{choose}
+use Rattle.rules.proofs.Steps.{choose-both, both-left, both-right}
 use Rattle.units.specs.Limits.{controlPages, framesMost}
 use Rattle.units.specs.declared.address.Hpa.{Hpa}
 use Rattle.units.specs.declared.address.Pfn.{Pfn}
@@ -65,7 +65,7 @@ pub data StockSound (t : Tables) : StockEdit → Type 0 where
 entry-fits : (n : ℕ) (v : Entry) → n ≤ framesMost → entryGood n v ≡ true → EntryFits v
 entry-fits n v h g = record {
   state = omega (arith, leb-true (v .state) PENDING-BLOCKED (both-left _ _ g));
-  frame = iff-both (λ (x : Bool). x ≡ true → v .frame .0 < 2 ^ 29) _ _ _ (λ _ q. omega (arith, eqb-true (v .frame .0) 0 q)) (λ _ q. omega (arith, ltb-true (v .frame .0) n q)) (both-right _ _ g);
+  frame = choose-both (λ (x : Bool). x ≡ true → v .frame .0 < 2 ^ 29) _ _ _ (λ _ q. omega (arith, eqb-true (v .frame .0) 0 q)) (λ _ q. omega (arith, ltb-true (v .frame .0) n q)) (both-right _ _ g);
 }
 
 module _ (t : Tables) (z : Sized t) where
@@ -87,7 +87,7 @@ module _ (t : Tables) (z : Sized t) where
   was-used stock-stays k u = u
   was-used (stock-takes {b} h) k u = sym (stored-other (view t .used) b true (sizesIn t .tables + k) (λ q. omega arith)) ∙ u
   was-used (stock-gives {b} h) k u =
-      iff-both (λ (y : Bool). y ≡ true → view t .used (sizesIn t .tables + k) ≡ true) (eqb (sizesIn t .tables + k) b) false _
+      choose-both (λ (y : Bool). y ≡ true → view t .used (sizesIn t .tables + k) ≡ true) (eqb (sizesIn t .tables + k) b) false _
       (λ _ q. absurd (false≢true q)) (λ _ q. q) u
 
   same-domain : {se : StockEdit} → StockSound t se → (k : ℕ) → wipedDomain se (view t .domain) k ≡ view t .domain k
@@ -142,22 +142,22 @@ module _ (base : Hpa) (t : Tables) (ok : Lent base t) {fe : FrameEdit} {de : Dom
 
 module _ (n m i p : ℕ) where
   page-before : i < m → pageGood n m i p ≡ true → pageGood n (m + 1) i p ≡ true
-  unfolding iff
+  unfolding choose
   page-before h g = rw (lt-ltb i (m + 1) (omega arith)) (rw (lt-ltb i m h) at g)
 
   page-after : m < i → pageGood n m i p ≡ true → pageGood n (m + 1) i p ≡ true
-  unfolding iff
+  unfolding choose
   page-after h g = rw (le-ltb i (m + 1) (omega arith)) (rw (le-ltb i m (omega arith)) at g)
 
   page-new : i ≡ m → p < n → pageGood n (m + 1) i p ≡ true
-  unfolding iff
+  unfolding choose
   page-new h k = rw (lt-ltb i (m + 1) (omega arith), lt-ltb p n k) refl
 
 page-listed : (n l m i p : ℕ) → l ≡ m + 1 → pageGood n (m + 1) i p ≡ true → pageGood n l i p ≡ true
 page-listed n l m i p q g = rw q g
 
 page-none : (n l i p : ℕ) → l ≡ 0 → p ≡ 0 → pageGood n l i p ≡ true
-unfolding iff
+unfolding choose
 page-none n l i p q h = rw (q, h, le-ltb i 0 (omega arith)) refl
 
 module _ (base : Hpa) (t : Tables) (ok : Lent base t) {fe : FrameEdit} (fs : FrameSound t fe) (r m : ℕ) (v : Domain) (F : Pfn)
@@ -250,11 +250,11 @@ module _ (base : Hpa) (t : Tables) (ok : Lent base t) {fe : FrameEdit} (fs : Fra
   domains-now₃ k ne = a₃ .domains k ∙ stored-other (stored (view t .domain) r (domainOf 0)) r v k ne ∙ stored-other (view t .domain) r (domainOf 0) k ne
 
   page-now₃ : (i : ℕ) → view (applied e₃ t) .control r i ≡ 0
-  unfolding e₃ newPage wipedPage iff
+  unfolding e₃ newPage wipedPage choose
   page-now₃ i = a₃ .controls r i ∙ rw (eq-eqb r r refl) refl
 
   pages-now₃ : (k i : ℕ) → (k ≡ r → ⊥) → view (applied e₃ t) .control k i ≡ view t .control k i
-  unfolding e₃ newPage wipedPage iff
+  unfolding e₃ newPage wipedPage choose
   pages-now₃ k i ne = a₃ .controls k i ∙ rw (ne-eqb k r ne) refl
 
   uses-now₃ : (c : ℕ) → (c ≡ b → ⊥) → view (applied e₃ t) .used c ≡ view t .used c
@@ -263,7 +263,7 @@ module _ (base : Hpa) (t : Tables) (ok : Lent base t) {fe : FrameEdit} (fs : Fra
 
   records-now₃ : (k : ℕ) → k < sizesIn t .records → view (applied e₃ t) .used (sizesIn t .tables + k) ≡ true
       → RecordGood (length (t .frames)) (view (applied e₃ t) .domain k) (view (applied e₃ t) .control k)
-  unfolding iff
+  unfolding choose
   records-now₃ k h u = go (ℕ-discrete k r)
     where
       go : Dec (k ≡ r) → RecordGood (length (t .frames)) (view (applied e₃ t) .domain k) (view (applied e₃ t) .control k)

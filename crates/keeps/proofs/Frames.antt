@@ -4,8 +4,8 @@ use mathlib.Core.Bool.{true}
 use Prim.Native.Nat.{ℕ, _+_, _<_, _≤_}
 use native.Mathlib.Omega.{arith}
 use borrow.Author.Tests.{lt-ltb, ltb-true}
-use Rattle.rules.specs.Rule.{iff}
-use Rattle.rules.proofs.Steps.{both-left, both-right, iff-both}
+use Rattle.rules.specs.Rule.{choose}
+use Rattle.rules.proofs.Steps.{both-left, both-right, choose-both}
 use Rattle.units.specs.Limits.{epochMost}
 use Rattle.ledger.specs.Codes.{EPT, REG}
 use Rattle.range.specs.Range.{frameLimits}
@@ -20,31 +20,31 @@ use Rattle.keeps.proofs.Ranged.{both-of, frameGood}
 
 module _ (z : Sizes) where
   pub freed-good : frameGood z freed ≡ true
-  unfolding frameLimits iff
+  unfolding frameLimits choose
   freed-good = refl
 
   pub tdr-good : (r : ℕ) → r < z .records → frameGood z (newTdr r) ≡ true
-  unfolding frameLimits iff
+  unfolding frameLimits choose
   tdr-good r h = rw (lt-ltb r (z .records) h) refl
 
   pub tdcx-good : (d : ℕ) → d < z .frames → frameGood z (newTdcx (frame d)) ≡ true
-  unfolding frameLimits iff
+  unfolding frameLimits choose
   tdcx-good d h = rw (lt-ltb d (z .frames) h) refl
 
   pub ept-good : (d n : ℕ) → d < z .frames → n < z .tables → frameGood z (newEpt (frame d) n) ≡ true
-  unfolding frameLimits iff
+  unfolding frameLimits choose
   ept-good d n h k = rw (lt-ltb d (z .frames) h, lt-ltb n (z .tables) k) refl
 
   pub reg-good : (d : ℕ) → d < z .frames → frameGood z (newReg (frame d)) ≡ true
-  unfolding frameLimits iff
+  unfolding frameLimits choose
   reg-good d h = rw (lt-ltb d (z .frames) h) refl
 
   pub ept-epoch : frameLimits z EPT .epoch ≡ epochMost + 1
-  unfolding frameLimits iff
+  unfolding frameLimits choose
   ept-epoch = refl
 
   pub reg-epoch : frameLimits z REG .epoch ≡ epochMost + 1
-  unfolding frameLimits iff
+  unfolding frameLimits choose
   reg-epoch = refl
 
   -- a blocked frame
@@ -59,11 +59,11 @@ size-limit : (z : Sizes) (k : ℕ) → frameLimits z k .size ≤ 1
 unfolding frameLimits
 size-limit z k =
     let P : FrameLimits → Type 0 = λ l. l .size ≤ 1 in
-    iff-both P _ _ _ (λ _. omega arith)
-    (λ _. iff-both P _ _ _ (λ _. omega arith)
-    (λ _. iff-both P _ _ _ (λ _. omega arith)
-    (λ _. iff-both P _ _ _ (λ _. omega arith)
-    (λ _. iff-both P _ _ _ (λ _. omega arith) (λ _. omega arith)))))
+    choose-both P _ _ _ (λ _. omega arith)
+    (λ _. choose-both P _ _ _ (λ _. omega arith)
+    (λ _. choose-both P _ _ _ (λ _. omega arith)
+    (λ _. choose-both P _ _ _ (λ _. omega arith)
+    (λ _. choose-both P _ _ _ (λ _. omega arith) (λ _. omega arith)))))
 
 pub dated-fits : (z : Sizes) (t : Tables) (f e : ℕ) → frameGood z (view t .frame f) ≡ true → e ≤ epochMost → FrameFits (withFrameEpoch (view t .frame f) e)
 unfolding frameAt

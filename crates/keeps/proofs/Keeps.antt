@@ -5,8 +5,8 @@ use mathlib.Core.Bool.{Bool, true, false}
 use mathlib.Core.List.{List}
 use Prim.Native.Nat.{ℕ}
 use lib.ListN.{length}
-use Rattle.rules.specs.Rule.{iff, given}
-use Rattle.rules.proofs.Steps.{iff-both}
+use Rattle.rules.specs.Rule.{choose, given}
+use Rattle.rules.proofs.Steps.{choose-both}
 use Rattle.units.specs.declared.address.Hpa.{Hpa}
 use Rattle.gauge.specs.Marks.{marksOk}
 use Rattle.gauge.specs.declared.Gauge.{Gauge}
@@ -57,8 +57,8 @@ module _ (base : Hpa) (t : Tables) (ok : lentOk base t ≡ true) where
     -- (1)
     pub keeps : lentOk base (callOf base t g c .tables) ≡ true
     unfolding callOf
-    keeps = iff-both (λ (o : Outcome). lentOk base (o .tables) ≡ true) _ _ _
-        (λ _. iff-both (λ (o : Outcome). lentOk base (o .tables) ≡ true) _ _ _ (λ _. rule-keeps) (λ _. ok))
+    keeps = choose-both (λ (o : Outcome). lentOk base (o .tables) ≡ true) _ _ _
+        (λ _. choose-both (λ (o : Outcome). lentOk base (o .tables) ≡ true) _ _ _ (λ _. rule-keeps) (λ _. ok))
         (λ _. ok)
 
     -- (2)
@@ -67,11 +67,11 @@ module _ (base : Hpa) (t : Tables) (ok : lentOk base t ≡ true) where
     rule-used = plan-used (kept c)
 
     pub call-used : usedFrames (callOf base t g c .tables .frames)
-        ≡ iff (marksOk (g .raise) (g .clear) (length (t .frames))) (usedBy (planOf base t c) t (usedFrames (t .frames))) (usedFrames (t .frames))
-    unfolding callOf iff
+        ≡ choose (marksOk (g .raise) (g .clear) (length (t .frames))) (usedBy (planOf base t c) t (usedFrames (t .frames))) (usedFrames (t .frames))
+    unfolding callOf choose
     call-used = rw ok (by-marks (marksOk (g .raise) (g .clear) (length (t .frames))))
       where
-        by-marks : (b : Bool) → usedFrames (iff b (ruleOf base t g c) (outcome (No 13 0) t g) .tables .frames) ≡ iff b (usedBy (planOf base t c) t (usedFrames (t .frames))) (usedFrames (t .frames))
+        by-marks : (b : Bool) → usedFrames (choose b (ruleOf base t g c) (outcome (No 13 0) t g) .tables .frames) ≡ choose b (usedBy (planOf base t c) t (usedFrames (t .frames))) (usedFrames (t .frames))
         by-marks true = rule-used
         by-marks false = refl
 

@@ -9,8 +9,8 @@ use lib.Dec.{eqb}
 use lib.ListN.{length, getD, set}
 use lib.Seq.{getD-set-same, getD-set-other}
 use borrow.Author.Tests.{eqb-false, ltb-true, lt-ltb}
-use Rattle.rules.specs.Rule.{iff}
-use Rattle.rules.proofs.Steps.{iff-both}
+use Rattle.rules.specs.Rule.{choose}
+use Rattle.rules.proofs.Steps.{choose-both}
 use Rattle.units.specs.Limits.{tableEntries}
 use Rattle.units.specs.declared.address.Hpa.{Hpa}
 use Rattle.stock.proofs.Bit.{room}
@@ -35,9 +35,9 @@ use Rattle.keeps.proofs.Ranged.{frameGood, entryGood, RecordGood, sizes
 with-below : (w k m : ℕ) (on : Bool) → k < m → w < 2 ^ m → withBit w k on < 2 ^ m
 unfolding withBit bitSet
 with-below w k m on h l =
-    iff-both (λ (x : ℕ). x < 2 ^ m) (eqb (w / 2 ^ k % 2) 1) _ _
-    (λ e. iff-both (λ (x : ℕ). x < 2 ^ m) on w (w - 2 ^ k) (λ _. l) (λ _. omega arith))
-    (λ e. iff-both (λ (x : ℕ). x < 2 ^ m) on (w + 2 ^ k) w (λ _. room m k w h l (omega (arith, eqb-false (w / 2 ^ k % 2) 1 e))) (λ _. l))
+    choose-both (λ (x : ℕ). x < 2 ^ m) (eqb (w / 2 ^ k % 2) 1) _ _
+    (λ e. choose-both (λ (x : ℕ). x < 2 ^ m) on w (w - 2 ^ k) (λ _. l) (λ _. omega arith))
+    (λ e. choose-both (λ (x : ℕ). x < 2 ^ m) on (w + 2 ^ k) w (λ _. room m k w h l (omega (arith, eqb-false (w / 2 ^ k % 2) 1 e))) (λ _. l))
 
 use-spare : (ws : List ℕ) (n b : ℕ) (on : Bool) → b < n → b / wordBits < length ws → spareClear ws n ≡ true → spareClear (setUse ws b on) n ≡ true
 unfolding spareClear setUse wordOf
@@ -63,19 +63,19 @@ spare-after n {st = st} (stock-given {b} h l) k e = use-spare st n b false (omeg
 frame-right : {z : Sizes} {fs : List ℕ} {fe : FrameEdit} → FrameIn z fs fe → (g : ℕ → Frame) (f : ℕ) → frameGood z (g f) ≡ true → frameGood z (newFrame fe g f) ≡ true
 unfolding newFrame
 frame-right frame-kept g f e = e
-frame-right {z} (frame-set {n} {v} _ _ h) g f e = iff-both (λ (x : Frame). frameGood z x ≡ true) (eqb f (n .0)) v (g f) (λ _. h) (λ _. e)
+frame-right {z} (frame-set {n} {v} _ _ h) g f e = choose-both (λ (x : Frame). frameGood z x ≡ true) (eqb f (n .0)) v (g f) (λ _. h) (λ _. e)
 
 entry-right : {n : ℕ} {es : List ℕ} {ee : EntryEdit} → EntryIn n es ee → (g : ℕ → ℕ → Entry) (b i : ℕ) → entryGood n (g b i) ≡ true → entryGood n (newEntry ee g b i) ≡ true
 unfolding newEntry
 entry-right entry-kept g b i e = e
 entry-right {n} (entry-set {b = c} {i = j} {v} _ _ h) g b i e =
-    iff-both (λ (x : Entry). entryGood n x ≡ true) (eqb b c) _ (g b i)
-    (λ _. iff-both (λ (x : Entry). entryGood n x ≡ true) (eqb (i % tableEntries) (j % tableEntries)) v (g b i) (λ _. h) (λ _. e)) (λ _. e)
+    choose-both (λ (x : Entry). entryGood n x ≡ true) (eqb b c) _ (g b i)
+    (λ _. choose-both (λ (x : Entry). entryGood n x ≡ true) (eqb (i % tableEntries) (j % tableEntries)) v (g b i) (λ _. h) (λ _. e)) (λ _. e)
 
 -- a block in use after an edit was in use before it, or is wiped
-taken-right : (P : Entry → Type 0) → P (entryOf 0) → (u : ℕ → Bool) (g : ℕ → ℕ → Entry) (n b i : ℕ) → (u b ≡ true → P (g b i)) → stored u n true b ≡ true → P (iff (eqb b n) (entryOf 0) (g b i))
-unfolding iff
-taken-right P z u g n b i f h = iff-both P (eqb b n) (entryOf 0) (g b i) (λ _. z) (λ e. f (rw e at h))
+taken-right : (P : Entry → Type 0) → P (entryOf 0) → (u : ℕ → Bool) (g : ℕ → ℕ → Entry) (n b i : ℕ) → (u b ≡ true → P (g b i)) → stored u n true b ≡ true → P (choose (eqb b n) (entryOf 0) (g b i))
+unfolding choose
+taken-right P z u g n b i f h = choose-both P (eqb b n) (entryOf 0) (g b i) (λ _. z) (λ e. f (rw e at h))
 
 wiped-right : (P : Entry → Type 0) → P (entryOf 0) → {ds st es : List ℕ} {se : StockEdit} → StockIn ds st es se → (u : ℕ → Bool) (g : ℕ → ℕ → Entry) (b i : ℕ)
     → (u b ≡ true → P (g b i)) → newUse se u b ≡ true → P (wipedEntry se g b i)
@@ -85,11 +85,11 @@ wiped-right P z (stock-table {b = n} _ _) u g b i f h = taken-right P z u g n b 
 wiped-right P z (stock-record {b = n} _ _ _) u g b i f h = taken-right P z u g n b i f h
 wiped-right P z (stock-given {b = n} _ _) u g b i f h = f (given-right (eqb b n) h)
   where
-    given-right : (q : Bool) → iff q false (u b) ≡ true → u b ≡ true
-    given-right q = iff-both (λ (x : Bool). x ≡ true → u b ≡ true) q false (u b) (λ _ e. absurd (false≢true e)) (λ _ e. e)
+    given-right : (q : Bool) → choose q false (u b) ≡ true → u b ≡ true
+    given-right q = choose-both (λ (x : Bool). x ≡ true → u b ≡ true) q false (u b) (λ _ e. absurd (false≢true e)) (λ _ e. e)
 
 free-good : (n : ℕ) → entryGood n (entryOf 0) ≡ true
-unfolding iff
+unfolding choose
 free-good n = refl
 
 pub lent-after : (base : Hpa) (t : Tables) (e : Edit) → Lent base t → Within t e

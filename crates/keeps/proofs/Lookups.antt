@@ -6,8 +6,8 @@ use Prim.Native.Nat.{ℕ, zero, suc, _+_, _-_, _/_, _<_, _≤_}
 use native.Mathlib.Omega.{arith}
 use lib.ListN.{length}
 use borrow.Author.Tests.{eqb-true, ltb-true, eq-eqb}
-use Rattle.rules.specs.Rule.{iff, given}
-use Rattle.rules.proofs.Steps.{iff-both, both-left, both-right}
+use Rattle.rules.specs.Rule.{choose, given}
+use Rattle.rules.proofs.Steps.{choose-both, both-left, both-right}
 use Rattle.levels.specs.Level.{indexAt}
 use Rattle.units.specs.Limits.{tableEntries}
 use Rattle.units.specs.declared.address.Hpa.{Hpa}
@@ -61,19 +61,19 @@ pub record IsOwn (t : Tables) (e : Entry) : Type 0 where
   pub type : kind (view t) (e .frame .0) ≡ entryType (e .state)
 
 record-limit : (z : Sizes) → frameLimits z TDR .number ≡ z .records
-unfolding frameLimits iff
+unfolding frameLimits choose
 record-limit z = refl
 
 table-limit : (z : Sizes) → frameLimits z EPT .number ≡ z .tables
-unfolding frameLimits iff
+unfolding frameLimits choose
 table-limit z = refl
 
 some-type : (n : ℕ) → entryType n ≡ NDA → ⊥
 unfolding entryType
-some-type n = iff-both (λ (x : ℕ). x ≡ NDA → ⊥) _ _ _ (λ _ q. omega arith) (λ _. iff-both (λ (x : ℕ). x ≡ NDA → ⊥) _ _ _ (λ _ q. omega arith) (λ _ q. omega arith))
+some-type n = choose-both (λ (x : ℕ). x ≡ NDA → ⊥) _ _ _ (λ _ q. omega arith) (λ _. choose-both (λ (x : ℕ). x ≡ NDA → ⊥) _ _ _ (λ _ q. omega arith) (λ _ q. omega arith))
 
 pub table-type : (n : ℕ) → (n ≡ NL-MAPPED) ⊎ (n ≡ NL-BLOCKED) → entryType n ≡ EPT
-unfolding entryType iff
+unfolding entryType choose
 table-type n (inl q) = rw q refl
 table-type n (inr q) = rw q refl
 
@@ -90,11 +90,11 @@ module _ (base : Hpa) (t : Tables) (ok : Lent base t) where
   -- on any tables a refusal may be any
   pub domain-for : (n : Pfn) → LookupSays (IsDomain t) Refused (domainFor t n)
   unfolding domainFor given
-  domain-for n = iff-both (LookupSays (IsDomain t) Refused) _ _ _
+  domain-for n = choose-both (LookupSays (IsDomain t) Refused) _ _ _
       (λ e.
       let k : kind (view t) (n .0) ≡ TDR = eqb-true _ _ e in
       let q : bitIn t (number (view t) (n .0)) ≡ sizesIn t .tables + number (view t) (n .0) = bit-is t _ (record-low (n .0) k) in
-      iff-both (LookupSays (IsDomain t) Refused) _ _ _
+      choose-both (LookupSays (IsDomain t) Refused) _ _ _
       (λ u. is (record {
         tdr = in-window t (n .0) (λ q. omega arith);
         rec = record-low (n .0) k;
@@ -127,12 +127,12 @@ module _ (base : Hpa) (t : Tables) (ok : Lent base t) where
     walk-says (suc level) block h u =
         let i = indexAt gpa (suc level) in
         let w : i < tableEntries = omega arith in
-        iff-both (WalkSays (IsSpot t) Unknown) _ _ _
+        choose-both (WalkSays (IsSpot t) Unknown) _ _ _
         (λ _. at (record { block = h; used = u; place = w }))
-        (λ _. iff-both (WalkSays (IsSpot t) Unknown) _ _ _
+        (λ _. choose-both (WalkSays (IsSpot t) Unknown) _ _ _
         (λ e.
         let q : view t .entry block i .state ≡ NL-MAPPED = eqb-true _ _ e in
-        iff-both (WalkSays (IsSpot t) Unknown) _ _ _
+        choose-both (WalkSays (IsSpot t) Unknown) _ _ _
         (λ o.
         let k : kind (view t) (view t .entry block i .frame .0) ≡ EPT = own-frame tdr (view t .entry block i) o .type ∙ table-type _ (inl q) in
         walk-says level (number (view t) (view t .entry block i .frame .0)) (omega (arith, table-low _ k)) (own-table tdr (view t .entry block i) o k))
@@ -147,6 +147,6 @@ module _ (base : Hpa) (t : Tables) (ok : Lent base t) where
   entry-for x d gpa level least most =
       on-walk (ReachSays (IsEntry t least most) Refused) (walk-for x d gpa level) _ _ _
       (λ j k. missed refused) (λ _. missed refused)
-      (λ b i sp. iff-both (ReachSays (IsEntry t least most) Refused) _ _ _
+      (λ b i sp. choose-both (ReachSays (IsEntry t least most) Refused) _ _ _
       (λ e. reached (record { spot = sp; state = between-true _ _ _ e }))
       (λ _. missed refused))

@@ -7,8 +7,8 @@ use native.Mathlib.Omega.{arith}
 use lib.Dec.{eqb}
 use lib.ListN.{length}
 use borrow.Author.Tests.{eqb-true, ltb-true, lt-ltb, le-leb}
-use Rattle.rules.specs.Rule.{iff, given}
-use Rattle.rules.proofs.Steps.{iff-both}
+use Rattle.rules.specs.Rule.{choose, given}
+use Rattle.rules.proofs.Steps.{choose-both}
 use Rattle.units.specs.Limits.{between, controlPages, epochMost, keyOk, epochOk, epochLeast}
 use Rattle.units.specs.declared.address.Hpa.{Hpa}
 use Rattle.units.specs.declared.address.Gpa.{Gpa}
@@ -89,19 +89,19 @@ pub record Names (n : ℕ) : Type 0 where
 
 blocked-state : (n : ℕ) → Names (blockedState n)
 unfolding blockedState
-blocked-state n = iff-both Names _ _ _ (λ _. record { some = λ q. omega arith; most = omega arith })
-    (λ _. iff-both Names _ _ _ (λ _. record { some = λ q. omega arith; most = omega arith }) (λ _. record { some = λ q. omega arith; most = omega arith }))
+blocked-state n = choose-both Names _ _ _ (λ _. record { some = λ q. omega arith; most = omega arith })
+    (λ _. choose-both Names _ _ _ (λ _. record { some = λ q. omega arith; most = omega arith }) (λ _. record { some = λ q. omega arith; most = omega arith }))
 
 unblocked-state : (n : ℕ) → Names (unblockedState n)
 unfolding unblockedState
-unblocked-state n = iff-both Names _ _ _ (λ _. record { some = λ q. omega arith; most = omega arith })
-    (λ _. iff-both Names _ _ _ (λ _. record { some = λ q. omega arith; most = omega arith }) (λ _. record { some = λ q. omega arith; most = omega arith }))
+unblocked-state n = choose-both Names _ _ _ (λ _. record { some = λ q. omega arith; most = omega arith })
+    (λ _. choose-both Names _ _ _ (λ _. record { some = λ q. omega arith; most = omega arith }) (λ _. record { some = λ q. omega arith; most = omega arith }))
 
 named-good : (n s f : ℕ) → Names s → f < n → entryGood n (entry s (frame f)) ≡ true
-named-good n s f w h = both-of _ _ (le-leb s PENDING-BLOCKED (w .most)) (iff-both (λ (x : Bool). x ≡ true) (eqb s FREE) _ _ (λ q. absurd (w .some (eqb-true s FREE q))) (λ _. lt-ltb f n h))
+named-good n s f w h = both-of _ _ (le-leb s PENDING-BLOCKED (w .most)) (choose-both (λ (x : Bool). x ≡ true) (eqb s FREE) _ _ (λ q. absurd (w .some (eqb-true s FREE q))) (λ _. lt-ltb f n h))
 
 free-good : (n : ℕ) → entryGood n freeEntry ≡ true
-unfolding iff
+unfolding choose
 free-good n = refl
 
 module _ (base : Hpa) (t : Tables) (ok : Lent base t) where
@@ -138,8 +138,8 @@ module _ (base : Hpa) (t : Tables) (ok : Lent base t) where
         on-parties (Keep base t) (spot-built base t Refused (λ _ _ _ _. refused) d (λ _. IsDomain t) (domain-for base t ok) gpa level lowest _ (frame-says base t f k) least most) Say next (λ a _. says)
         (λ x m p. g x m (p .party .found) (p .party .offered .inside))
 
-  check : (b : Bool) (p : Plan) (a : Answer) → (b ≡ true → Keep base t p) → Keep base t (iff b p (Say a))
-  check b p a f = iff-both (Keep base t) b p (Say a) f (λ _. says)
+  check : (b : Bool) (p : Plan) (a : Answer) → (b ≡ true → Keep base t p) → Keep base t (choose b p (Say a))
+  check b p a f = choose-both (Keep base t) b p (Say a) f (λ _. says)
 
   -- ---- how a call ends
 
@@ -159,7 +159,7 @@ module _ (base : Hpa) (t : Tables) (ok : Lent base t) where
 
   loses : (x : Looked) (n : Pfn) (se : StockEdit) (ee : EntryEdit) → IsDomain t x → n .0 < length (t .frames) → StockSound t se → EntrySound t ee → Keep base t (lose x n se ee)
   unfolding lose given
-  loses x n se ee d h ss es = iff-both (Keep base t) _ _ _ (λ _. says) (λ e. by-parts (free-frame n h) (domain-goes (d .rec) (good-counts (d .good) _ _ (d .good .listed) (omega (arith, d .good .children))) (same-listed x d)) ss es)
+  loses x n se ee d h ss es = choose-both (Keep base t) _ _ _ (λ _. says) (λ e. by-parts (free-frame n h) (domain-goes (d .rec) (good-counts (d .good) _ _ (d .good .listed) (omega (arith, d .good .children))) (same-listed x d)) ss es)
     where
       free-frame : (m : Pfn) → m .0 < length (t .frames) → FrameSound t (frames.Set m freed)
       free-frame m i = frame-set {v = freed} i (record { kind = omega arith; owner = omega arith; number = omega arith; epoch = omega arith; size = omega arith }) (freed-good (sizesIn t))
@@ -237,8 +237,8 @@ module _ (base : Hpa) (t : Tables) (ok : Lent base t) where
   unfolding entryType
   epoch-limit e o =
       ap (λ (x : ℕ). frameLimits (sizesIn t) x .epoch) (o .type)
-      ∙ iff-both (λ (x : ℕ). frameLimits (sizesIn t) x .epoch ≡ epochMost + 1) _ _ _ (λ _. ept-epoch (sizesIn t))
-      (λ _. iff-both (λ (x : ℕ). frameLimits (sizesIn t) x .epoch ≡ epochMost + 1) _ _ _ (λ _. ept-epoch (sizesIn t)) (λ _. reg-epoch (sizesIn t)))
+      ∙ choose-both (λ (x : ℕ). frameLimits (sizesIn t) x .epoch ≡ epochMost + 1) _ _ _ (λ _. ept-epoch (sizesIn t))
+      (λ _. choose-both (λ (x : ℕ). frameLimits (sizesIn t) x .epoch ≡ epochMost + 1) _ _ _ (λ _. ept-epoch (sizesIn t)) (λ _. reg-epoch (sizesIn t)))
 
   dated-frame : (e : Entry) (x : Looked) → IsOwn t e → IsDomain t x → FrameSound t (frames.Set (e .frame) (withFrameEpoch (frameAt (t .frames) (e .frame)) (x .dom .epoch)))
   dated-frame e x o d =
@@ -288,7 +288,7 @@ module _ (base : Hpa) (t : Tables) (ok : Lent base t) where
 
   child-keeps : (x : Looked) (n : Pfn) → n .0 < length (t .frames) → IsDomain t x → Keep base t (pages.reclaimChild (t .stock) x n (frameAt (t .frames) n))
   unfolding pages.reclaimChild
-  child-keeps x n h k = check _ _ _ (λ _. iff-both (Keep base t) _ _ _
+  child-keeps x n h k = check _ _ _ (λ _. choose-both (Keep base t) _ _ _
       (λ e. check _ _ _ (λ _.
       let q : kind (view t) (n .0) ≡ EPT = eqb-true _ _ e in
       loses x n _ _ k h (stock-gives {b = number (view t) (n .0)} (omega (arith, table-low base t ok (n .0) q))) entry-kept))
@@ -296,20 +296,20 @@ module _ (base : Hpa) (t : Tables) (ok : Lent base t) where
 
   reclaim-keeps : (f : Hpa) → Keep base t (pages.reclaimPlan base t f)
   unfolding pages.reclaimPlan pages.reclaimAt given
-  reclaim-keeps f = on-frame f 0 _ (λ n h. iff-both (Keep base t) _ _ _ (λ _. says)
-      (λ _. iff-both (Keep base t) _ _ _
+  reclaim-keeps f = on-frame f 0 _ (λ n h. choose-both (Keep base t) _ _ _ (λ _. says)
+      (λ _. choose-both (Keep base t) _ _ _
       (λ _. on-lookup (Keep base t) (domain-for base t ok n) _ _ (λ a _. says) tdr-keeps)
       (λ _. on-lookup (Keep base t) (domain-for base t ok _) _ _ (λ a _. says) (λ x k. child-keeps x n h k))))
 
   readpage-keeps : (f : Hpa) → Keep base t (pages.readpagePlan base t f)
   unfolding pages.readpagePlan given
-  readpage-keeps f = on-frame f 0 _ (λ n h. iff-both (Keep base t) _ _ _ (λ _. says) (λ _. says))
+  readpage-keeps f = on-frame f 0 _ (λ n h. choose-both (Keep base t) _ _ _ (λ _. says) (λ _. says))
 
   readentry-keeps : (d : Hpa) (gpa : Gpa) (level : ℕ) → Keep base t (trees.readentryPlan base t d gpa level)
   unfolding trees.readentryPlan trees.readentryAt given
   readentry-keeps d gpa level = on-spot d gpa level 0 _ (λ x k.
       on-walk (Keep base t) (walk-for base t ok x k gpa level) _ _ _ (λ j i. says) (λ _. says)
-      (λ b i sp. iff-both (Keep base t) _ _ _ (λ _. says) (λ _. says)))
+      (λ b i sp. choose-both (Keep base t) _ _ _ (λ _. says) (λ _. says)))
 
   -- every call
   pub plan-keeps : (c : Call) → Keep base t (planOf base t c)

@@ -6,9 +6,9 @@ use native.Mathlib.Omega.{arith}
 use lib.Dec.{eqb, ltb, leb}
 use lib.ListN.{length}
 use borrow.Author.Tests.{eqb-true, leb-true, lt-ltb}
-use Rattle.rules.specs.Rule.{iff, given}
+use Rattle.rules.specs.Rule.{choose, given}
 use Rattle.rules.specs.Upto.{allFrom}
-use Rattle.rules.proofs.Steps.{iff-both, both-left, both-right}
+use Rattle.rules.proofs.Steps.{choose-both, both-left, both-right}
 use Rattle.units.specs.Limits.{between, framesMost, recordsMost, tablesMost, tableEntries, controlPages, recordWords}
 use Rattle.units.specs.Limits as limits
 use Rattle.units.specs.declared.address.Hpa.{Hpa}
@@ -26,8 +26,8 @@ use Rattle.keeps.specs.Views.{View, view}
 
 -- ---- tests
 
-pub both-of : (t r : Bool) → t ≡ true → r ≡ true → iff t r false ≡ true
-unfolding iff
+pub both-of : (t r : Bool) → t ≡ true → r ≡ true → choose t r false ≡ true
+unfolding choose
 both-of t r e f = rw (e, f) refl
 
 module _ (p : ℕ → Bool) where
@@ -46,14 +46,14 @@ between-true a n b e = (leb-true _ _ (both-left _ _ e), leb-true _ _ (both-right
 -- ---- the values
 
 abbrev pub frameGood : Sizes → Frame → Bool
-frameGood z f = iff (ltb (f .owner .0) (frameLimits z (f .kind) .owner)) (iff (ltb (f .number) (frameLimits z (f .kind) .number))
-    (iff (ltb (f .epoch) (frameLimits z (f .kind) .epoch)) (ltb (f .size) (frameLimits z (f .kind) .size)) false) false) false
+frameGood z f = choose (ltb (f .owner .0) (frameLimits z (f .kind) .owner)) (choose (ltb (f .number) (frameLimits z (f .kind) .number))
+    (choose (ltb (f .epoch) (frameLimits z (f .kind) .epoch)) (ltb (f .size) (frameLimits z (f .kind) .size)) false) false) false
 
 abbrev pub entryGood : ℕ → Entry → Bool
-entryGood frames e = iff (leb (e .state) PENDING-BLOCKED) (iff (eqb (e .state) FREE) (eqb (e .frame .0) 0) (ltb (e .frame .0) frames)) false
+entryGood frames e = choose (leb (e .state) PENDING-BLOCKED) (choose (eqb (e .state) FREE) (eqb (e .frame .0) 0) (ltb (e .frame .0) frames)) false
 
 abbrev pub pageGood : ℕ → ℕ → ℕ → ℕ → Bool
-pageGood frames listed i n = iff (ltb i listed) (ltb n frames) (eqb n 0)
+pageGood frames listed i n = choose (ltb i listed) (ltb n frames) (eqb n 0)
 
 pub record RecordGood (frames : ℕ) (d : Domain) (pages : ℕ → ℕ) : Type 0 where
   pub scalars : domainOk frames d ≡ true
@@ -94,17 +94,17 @@ sized base t e =
 
 -- a record's in-use bit and its root's block: today the same number
 pub bit-is : (t : Tables) (r : ℕ) → r < length (t .domains) / recordWords → bitIn t r ≡ tablesOf (length (t .domains)) (length (t .entries)) + r
-unfolding bitOf tablesOf iff
+unfolding bitOf tablesOf choose
 bit-is t r h = rw (lt-ltb r (length (t .domains) / recordWords) h) refl
 
 pub root-is : (t : Tables) (r : ℕ) → r < length (t .domains) / recordWords → rootIn t r ≡ tablesOf (length (t .domains)) (length (t .entries)) + r
-unfolding rootOf tablesOf iff
+unfolding rootOf tablesOf choose
 root-is t r h = rw (lt-ltb r (length (t .domains) / recordWords) h) refl
 
 -- ---- a table, a record
 
-so-if : (u r : Bool) → (u ≡ true → r ≡ true) → iff u r true ≡ true
-so-if u r f = iff-both (λ (x : Bool). x ≡ true) u r true f (λ _. refl)
+so-if : (u r : Bool) → (u ≡ true → r ≡ true) → choose u r true ≡ true
+so-if u r f = choose-both (λ (x : Bool). x ≡ true) u r true f (λ _. refl)
 
 -- the entries of a block are in range
 abbrev pub EntriesGood : ℕ → View → ℕ → Type 0

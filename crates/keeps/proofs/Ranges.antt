@@ -5,7 +5,7 @@ use Prim.Native.Nat.{ℕ, _+_, _-_, _<_}
 use native.Mathlib.Omega.{arith}
 use native.Mathlib.Decide.{decLt}
 use lib.ListN.{length}
-use Rattle.rules.specs.Rule.{iff, given}
+use Rattle.rules.specs.Rule.{choose, given}
 use Rattle.rules.proofs.Steps.{both-left, both-right}
 use Rattle.rules.proofs.Uptos.{all-at}
 use Rattle.units.specs.Limits.{tableEntries, controlPages}
@@ -18,8 +18,8 @@ use Rattle.plan.specs.Lookup.{bitIn, rootIn}
 use Rattle.keeps.specs.Views.{view}
 use Rattle.keeps.proofs.Ranged.{frameGood, RecordGood, EntriesGood, sizesIn, bit-is, root-is, Lent}
 
-pub if-so : (u r : Bool) → iff u r true ≡ true → u ≡ true → r ≡ true
-unfolding iff
+pub if-so : (u r : Bool) → choose u r true ≡ true → u ≡ true → r ≡ true
+unfolding choose
 if-so u r e h = rw h at e
 
 module _ (n : ℕ) (t : Tables) where

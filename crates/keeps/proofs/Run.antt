@@ -5,8 +5,8 @@ use mathlib.Core.List.{List, [], _∷_}
 use mathlib.Core.Logic.{_⊎_, inl, inr}
 use Prim.Native.Nat.{ℕ}
 use lib.ListN.{length}
-use Rattle.rules.specs.Rule.{iff, given}
-use Rattle.rules.proofs.Steps.{iff-both}
+use Rattle.rules.specs.Rule.{choose, given}
+use Rattle.rules.proofs.Steps.{choose-both}
 use Rattle.units.specs.declared.address.Hpa.{Hpa}
 use Rattle.gauge.specs.Marks.{marksOk}
 use Rattle.gauge.specs.declared.Gauge.{Gauge}
@@ -27,7 +27,7 @@ marksIn t g = marksOk (g .raise) (g .clear) (length (t .frames))
 
 pub gauge-marks : (g : Gauge) (a : Answer) (fs : List ℕ) → (gaugeAfter g a fs .raise ≡ g .raise) × (gaugeAfter g a fs .clear ≡ g .clear)
 unfolding gaugeAfter given
-gauge-marks g a fs = iff-both (λ (h : Gauge). (h .raise ≡ g .raise) × (h .clear ≡ g .clear)) _ _ _ (λ _. (refl, refl)) (λ _. (refl, refl))
+gauge-marks g a fs = choose-both (λ (h : Gauge). (h .raise ≡ g .raise) × (h .clear ≡ g .clear)) _ _ _ (λ _. (refl, refl)) (λ _. (refl, refl))
 
 module _ (base : Hpa) (t : Tables) (g : Gauge) where
   rule-marks : (c : Call) → (ruleOf base t g c .gauge .raise ≡ g .raise) × (ruleOf base t g c .gauge .clear ≡ g .clear)
@@ -40,13 +40,13 @@ module _ (base : Hpa) (t : Tables) (g : Gauge) where
   -- ---- what a call is where the check passes, and where it doesn't
 
   call-rule : (c : Call) → lentOk base t ≡ true → marksIn t g ≡ true → callOf base t g c ≡ ruleOf base t g c
-  unfolding callOf iff
+  unfolding callOf choose
   call-rule c ok m = rw (ok, m) refl
 
   call-refused : (c : Call) → (lentOk base t ≡ false) ⊎ (marksIn t g ≡ false) → callOf base t g c ≡ outcome (No 13 0) t g
-  unfolding callOf iff
+  unfolding callOf choose
   call-refused c (inl e) = rw e refl
-  call-refused c (inr e) = iff-both (λ (o : Outcome). o ≡ outcome (No 13 0) t g) (lentOk base t) _ _ (λ _. rw e refl) (λ _. refl)
+  call-refused c (inr e) = choose-both (λ (o : Outcome). o ≡ outcome (No 13 0) t g) (lentOk base t) _ _ (λ _. rw e refl) (λ _. refl)
 
   pub all-refused : (cs : List Call) → (lentOk base t ≡ false) ⊎ (marksIn t g ≡ false) → foldOf base t g cs ≡ ran (allRefused cs) t g
   unfolding foldOf allRefused given
@@ -66,8 +66,8 @@ run-from base t g (c ∷ cs) ok m =
 -- (3) the run with one check is the fold of `callOf`
 pub run : (base : Hpa) (t : Tables) (g : Gauge) (cs : List Call) → runOf base t g cs ≡ foldOf base t g cs
 unfolding runOf given
-run base t g cs = iff-both (λ (r : Ran). r ≡ foldOf base t g cs) _ _ _
-    (λ ok. iff-both (λ (r : Ran). r ≡ foldOf base t g cs) _ _ _
+run base t g cs = choose-both (λ (r : Ran). r ≡ foldOf base t g cs) _ _ _
+    (λ ok. choose-both (λ (r : Ran). r ≡ foldOf base t g cs) _ _ _
     (λ m. run-from base t g cs ok m)
     (λ e. sym (all-refused base t g cs (inr e))))
     (λ e. sym (all-refused base t g cs (inl e)))

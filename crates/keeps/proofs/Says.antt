@@ -7,7 +7,7 @@ use native.Mathlib.Omega.{arith}
 use lib.ListN.{length}
 use borrow.Author.Tests.{eqb-true, ltb-true}
 use Rattle.rules.specs.Rule.{given}
-use Rattle.rules.proofs.Steps.{iff-both}
+use Rattle.rules.proofs.Steps.{choose-both}
 use Rattle.units.specs.Address.{frameOf}
 use Rattle.units.specs.declared.address.Hpa.{Hpa}
 use Rattle.units.specs.declared.address.Gpa.{Gpa}
@@ -112,7 +112,7 @@ module _ (base : Hpa) (t : Tables) (hpa : Hpa) where
 
   inside : PlaceGood (placeIn base t hpa)
   unfolding PlaceGood frameOf
-  inside = iff-both PlaceGood _ _ _ (λ _. iff-both PlaceGood _ _ _ (λ _. iff-both PlaceGood _ _ _ (λ e. ltb-true _ _ e) (λ _. 0)) (λ _. 0)) (λ _. 0)
+  inside = choose-both PlaceGood _ _ _ (λ _. choose-both PlaceGood _ _ _ (λ _. choose-both PlaceGood _ _ _ (λ e. ltb-true _ _ e) (λ _. 0)) (λ _. 0)) (λ _. 0)
 
   by-place : (k : ℕ) (q : Place) → placeIn base t hpa ≡ q → PlaceGood q → OperandSays (InWindow base t hpa) (onPlace q (operand.Bad k) operand.Frame)
   unfolding onPlace PlaceGood
@@ -153,9 +153,9 @@ module _ (base : Hpa) (t : Tables) (R : Answer → Type 0) (ref : (n k : ℕ) �
   built-says {S} f o least most =
       let P = PartiesSays (Built (Party (InWindow base t d) Q S) least most) R in
       on-parties P (parties-say f o) _ _ (λ a r. none r) (λ x m p.
-      iff-both P _ _ _
-      (λ l. iff-both P _ _ _
-      (λ _. iff-both P _ _ _
+      choose-both P _ _ _
+      (λ l. choose-both P _ _ _
+      (λ _. choose-both P _ _ _
       (λ e. are (record { party = p; life = eqb-true _ _ l; op = between-true _ _ _ e }))
       (λ _. none (ref 5 0 (omega arith) (omega arith))))
       (λ _. none (ref 4 0 (omega arith) (omega arith))))
@@ -163,7 +163,7 @@ module _ (base : Hpa) (t : Tables) (R : Answer → Type 0) (ref : (n k : ℕ) �
 
   spot-says : {S : Pfn → Type 0} (gpa : Gpa) (level lowest′ : ℕ) (f : Operand) → OperandSays S f → OperandSays S (spotOperand gpa level lowest′ f)
   unfolding spotOperand
-  spot-says {S} gpa level lowest′ f o = iff-both (OperandSays S) _ _ _ (λ _. iff-both (OperandSays S) _ _ _ (λ _. o) (λ _. bad)) (λ _. bad)
+  spot-says {S} gpa level lowest′ f o = choose-both (OperandSays S) _ _ _ (λ _. choose-both (OperandSays S) _ _ _ (λ _. o) (λ _. bad)) (λ _. bad)
 
   pub spot-built : {S : Pfn → Type 0} (gpa : Gpa) (level lowest′ : ℕ) (f : Operand) → OperandSays S f → (least most : ℕ)
       → PartiesSays (Built (Party (InWindow base t d) Q S) least most) R (spotFor base t d gpa level lowest′ f least most)
@@ -196,7 +196,7 @@ pub record Owned (Q : ℕ → ℕ → Entry → Type 0) (t : Tables) (x : Looked
 module _ (t : Tables) (R : Answer → Type 0) (ref : (n k : ℕ) → 0 < n → n < 13 → R (No n k)) (x : Looked) (gpa : Gpa) (level : ℕ) where
   pub free-says : {Q : ℕ → ℕ → Entry → Type 0} (f : Pfn) (k : ℕ) → ReachSays Q R (entryFor t x gpa level FREE FREE) → ReachSays (Offered Q t f) R (freeFor t x gpa level f k)
   unfolding freeFor
-  free-says {Q} f k r = iff-both (ReachSays (Offered Q t f) R) _ _ _ (λ e. offered r (is-nda t f e)) (λ _. missed (ref 2 k (omega arith) (omega arith)))
+  free-says {Q} f k r = choose-both (ReachSays (Offered Q t f) R) _ _ _ (λ e. offered r (is-nda t f e)) (λ _. missed (ref 2 k (omega arith) (omega arith)))
     where
       offered : {q : Reach} → ReachSays Q R q → kind (view t) (f .0) ≡ NDA → ReachSays (Offered Q t f) R q
       offered (reached h) z = reached (record { entry = h; free = z })
@@ -207,6 +207,6 @@ module _ (t : Tables) (R : Answer → Type 0) (ref : (n k : ℕ) → 0 < n → n
   unfolding trackedFor
   tracked-says {Q} least most r foreign′ =
       on-reach (ReachSays (Owned Q t x) R) r _ _ (λ a h. missed h) (λ b i e q.
-      iff-both (ReachSays (Owned Q t x) R) _ _ _
-      (λ _. iff-both (ReachSays (Owned Q t x) R) _ _ _ (λ o. reached (record { entry = q; own = o })) (λ o. missed (foreign′ b i e q o)))
+      choose-both (ReachSays (Owned Q t x) R) _ _ _
+      (λ _. choose-both (ReachSays (Owned Q t x) R) _ _ _ (λ o. reached (record { entry = q; own = o })) (λ o. missed (foreign′ b i e q o)))
       (λ _. missed (ref 8 0 (omega arith) (omega arith))))

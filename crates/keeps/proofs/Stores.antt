@@ -8,7 +8,7 @@ use native.Mathlib.Decide.{ℕ-discrete}
 use lib.Dec.{eqb}
 use lib.ListN.{length}
 use borrow.Author.Tests.{eq-eqb, ne-eqb}
-use Rattle.rules.specs.Rule.{iff}
+use Rattle.rules.specs.Rule.{choose}
 use Rattle.units.specs.Limits.{tableEntries, controlPages, recordWords}
 use Rattle.units.specs.declared.address.Pfn.{Pfn}
 use Rattle.stock.specs.Bits.{wordBits, inUse}
@@ -40,31 +40,31 @@ use Rattle.keeps.proofs.Ranged.{frameGood, entryGood, sizesIn}
 -- ---- what each part leaves of a view
 
 abbrev pub stored : {A : Type 0} → (ℕ → A) → ℕ → A → ℕ → A
-stored g n v k = iff (eqb k n) v (g k)
+stored g n v k = choose (eqb k n) v (g k)
 
 pub stored-same : {A : Type 0} (g : ℕ → A) (n : ℕ) (v : A) → stored g n v n ≡ v
-unfolding iff
+unfolding choose
 stored-same g n v = rw (eq-eqb n n refl) refl
 
 pub stored-at : {A : Type 0} (g : ℕ → A) (n : ℕ) (v : A) (k : ℕ) → k ≡ n → stored g n v k ≡ v
-unfolding iff
+unfolding choose
 stored-at g n v k e = rw (eq-eqb k n e) refl
 
 pub stored-other : {A : Type 0} (g : ℕ → A) (n : ℕ) (v : A) (k : ℕ) → (k ≡ n → ⊥) → stored g n v k ≡ g k
-unfolding iff
+unfolding choose
 stored-other g n v k e = rw (ne-eqb k n e) refl
 
 -- a row of w places, each with many numbers: place i and i + w are one
 abbrev pub cell : {A : Type 0} → ℕ → (ℕ → ℕ → A) → ℕ → ℕ → A → ℕ → ℕ → A
-cell w g b i v c j = iff (eqb c b) (iff (eqb (j % w) (i % w)) v (g c j)) (g c j)
+cell w g b i v c j = choose (eqb c b) (choose (eqb (j % w) (i % w)) v (g c j)) (g c j)
 
 module _ {A : Type 0} (w : ℕ) (g : ℕ → ℕ → A) (b i : ℕ) (v : A) (c j : ℕ) where
   pub cell-at : c ≡ b → j % w ≡ i % w → cell w g b i v c j ≡ v
-  unfolding iff
+  unfolding choose
   cell-at p q = rw (eq-eqb c b p, eq-eqb (j % w) (i % w) q) refl
 
   pub cell-other : (c ≡ b → j % w ≡ i % w → ⊥) → cell w g b i v c j ≡ g c j
-  unfolding iff
+  unfolding choose
   cell-other d = go (ℕ-discrete c b) (ℕ-discrete (j % w) (i % w))
     where
       go : Dec (c ≡ b) → Dec (j % w ≡ i % w) → cell w g b i v c j ≡ g c j
@@ -119,13 +119,13 @@ wipedDomain (stock.Give n) g r = g r
 unfoldable pub wipedPage : StockEdit → (ℕ → ℕ → ℕ) → ℕ → ℕ → ℕ
 wipedPage (stock.Keep) g r i = g r i
 wipedPage (stock.Table n) g r i = g r i
-wipedPage (stock.Record bit n k) g r i = iff (eqb r k) 0 (g r i)
+wipedPage (stock.Record bit n k) g r i = choose (eqb r k) 0 (g r i)
 wipedPage (stock.Give n) g r i = g r i
 
 unfoldable pub wipedEntry : StockEdit → (ℕ → ℕ → Entry) → ℕ → ℕ → Entry
 wipedEntry (stock.Keep) g b i = g b i
-wipedEntry (stock.Table n) g b i = iff (eqb b n) (entryOf 0) (g b i)
-wipedEntry (stock.Record bit n r) g b i = iff (eqb b n) (entryOf 0) (g b i)
+wipedEntry (stock.Table n) g b i = choose (eqb b n) (entryOf 0) (g b i)
+wipedEntry (stock.Record bit n r) g b i = choose (eqb b n) (entryOf 0) (g b i)
 wipedEntry (stock.Give n) g b i = g b i
 
 -- the view after an edit
@@ -229,32 +229,32 @@ same-lengths e t = record {
 -- ---- a wiped record and a wiped block
 
 module _ (ds : List ℕ) (k r : ℕ) where
-  wiped-word : k < length ds / recordWords → (j : ℕ) → recordWord (wipedAt recordWords ds k) r j ≡ iff (eqb r k) 0 (recordWord ds r j)
-  unfolding recordWord iff
+  wiped-word : k < length ds / recordWords → (j : ℕ) → recordWord (wipedAt recordWords ds k) r j ≡ choose (eqb r k) 0 (recordWord ds r j)
+  unfolding recordWord choose
   wiped-word h j = go (ℕ-discrete r k)
     where
-      go : Dec (r ≡ k) → recordWord (wipedAt recordWords ds k) r j ≡ iff (eqb r k) 0 (recordWord ds r j)
+      go : Dec (r ≡ k) → recordWord (wipedAt recordWords ds k) r j ≡ choose (eqb r k) 0 (recordWord ds r j)
       go (yes e) = rw (eq-eqb r k e, e) (wiped-in recordWords ds k h (j % recordWords) (omega arith))
       go (no e) = rw (ne-eqb r k e) (wiped-other recordWords ds k r (j % recordWords) e (omega arith))
 
   wiped-domain : k < length ds / recordWords → domainAt (wipedAt recordWords ds k) r ≡ stored (domainAt ds) k (domainOf 0) r
-  unfolding domainAt iff
+  unfolding domainAt choose
   wiped-domain h = go (ℕ-discrete r k)
     where
       go : Dec (r ≡ k) → domainAt (wipedAt recordWords ds k) r ≡ stored (domainAt ds) k (domainOf 0) r
       go (yes e) = ap domainOf (wiped-word h 0) ∙ rw (eq-eqb r k e) refl
       go (no e) = ap domainOf (wiped-word h 0) ∙ rw (ne-eqb r k e) refl
 
-  wiped-page : k < length ds / recordWords → (i : ℕ) → pageAt (wipedAt recordWords ds k) r i .0 ≡ iff (eqb r k) 0 (pageAt ds r i .0)
+  wiped-page : k < length ds / recordWords → (i : ℕ) → pageAt (wipedAt recordWords ds k) r i .0 ≡ choose (eqb r k) 0 (pageAt ds r i .0)
   unfolding pageAt
   wiped-page h i = wiped-word h (1 + i % controlPages)
 
 module _ (es : List ℕ) (b c : ℕ) where
-  wiped-entry : b < length es / tableEntries → (i : ℕ) → entryAt (wipedAt tableEntries es b) c i ≡ iff (eqb c b) (entryOf 0) (entryAt es c i)
-  unfolding entryAt iff
+  wiped-entry : b < length es / tableEntries → (i : ℕ) → entryAt (wipedAt tableEntries es b) c i ≡ choose (eqb c b) (entryOf 0) (entryAt es c i)
+  unfolding entryAt choose
   wiped-entry h i = go (ℕ-discrete c b)
     where
-      go : Dec (c ≡ b) → entryAt (wipedAt tableEntries es b) c i ≡ iff (eqb c b) (entryOf 0) (entryAt es c i)
+      go : Dec (c ≡ b) → entryAt (wipedAt tableEntries es b) c i ≡ choose (eqb c b) (entryOf 0) (entryAt es c i)
       go (yes e) = rw (eq-eqb c b e, e) (ap entryOf (wiped-in tableEntries es b h (i % tableEntries) (omega arith)))
       go (no e) = rw (ne-eqb c b e) (ap entryOf (wiped-other tableEntries es b c (i % tableEntries) e (omega arith)))
 

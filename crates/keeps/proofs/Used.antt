@@ -7,9 +7,9 @@ use native.Mathlib.Nat.{eq-or-lt-of-le}
 use mathlib.Core.Logic.{⊎-elim}
 use lib.Dec.{eqb}
 use lib.ListN.{length}
-use Rattle.rules.specs.Rule.{iff}
+use Rattle.rules.specs.Rule.{choose}
 use Rattle.rules.specs.Upto.{sumFrom}
-use Rattle.rules.proofs.Steps.{iff-both}
+use Rattle.rules.proofs.Steps.{choose-both}
 use Rattle.units.specs.declared.address.Pfn.{Pfn}
 use Rattle.ledger.specs.Codes.{NDA}
 use Rattle.ledger.specs.Count.{oneUsed, usedFrames}
@@ -57,16 +57,16 @@ sum-most g (suc k) i h = omega (arith, h i, sum-most g k (i + 1) h)
 -- a count that is carried fits where the frames' number does
 pub used-most : (fs : List ℕ) → usedFrames fs ≤ length fs
 unfolding usedFrames oneUsed
-used-most fs = sum-most (oneUsed fs) (length fs) 0 (λ j. iff-both (λ (x : ℕ). x ≤ 1) _ 0 1 (λ _. omega arith) (λ _. omega arith))
+used-most fs = sum-most (oneUsed fs) (length fs) 0 (λ j. choose-both (λ (x : ℕ). x ≤ 1) _ 0 1 (λ _. omega arith) (λ _. omega arith))
 
 module _ (fs : List ℕ) (n : Pfn) (f : Frame) where
   used-same : n .0 < length fs → FrameFits f → oneUsed (setFrame fs n f) (n .0) ≡ isUsed f
   unfolding oneUsed isUsed
-  used-same h r = ap (λ (x : Frame). iff (eqb (x .kind) NDA) 0 1) (frame-same fs n f h r)
+  used-same h r = ap (λ (x : Frame). choose (eqb (x .kind) NDA) 0 1) (frame-same fs n f h r)
 
   used-other : (j : ℕ) → (j ≡ n .0 → ⊥) → oneUsed (setFrame fs n f) j ≡ oneUsed fs j
   unfolding oneUsed
-  used-other j d = ap (λ (x : Frame). iff (eqb (x .kind) NDA) 0 1) (frame-other fs n f (record { 0 = j }) d)
+  used-other j d = ap (λ (x : Frame). choose (eqb (x .kind) NDA) 0 1) (frame-other fs n f (record { 0 = j }) d)
 
   -- used after = used before − (was used) + (is used)
   pub used-moves : n .0 < length fs → FrameFits f → usedFrames (setFrame fs n f) ≡ usedFrames fs - oneUsed fs (n .0) + isUsed f

@@ -3,7 +3,7 @@ use Prim.Native.Nat.{ℕ, _+_, _-_}
 use mathlib.Core.List.{List, [], _∷_}
 use lib.ListN.{length}
 use lib.Dec.{eqb}
-use Rattle.rules.specs.Rule.{iff, need, given}
+use Rattle.rules.specs.Rule.{choose, need, given}
 use Rattle.units.specs.declared.address.Hpa.{Hpa}
 use Rattle.gauge.specs.Marks.{marksOk}
 use Rattle.gauge.specs.Update.{after}
@@ -27,7 +27,7 @@ use Rattle.host.specs.Calls.{Outcome, outcome, planOf, callOf}
 -- ---- the count, carried by value: less one if the frame was used, one more if it is now
 
 unfoldable pub isUsed : Frame → ℕ
-isUsed f = iff (eqb (f .kind) NDA) 0 1
+isUsed f = choose (eqb (f .kind) NDA) 0 1
 
 unfoldable pub usedAfter : FrameEdit → List ℕ → ℕ → ℕ
 usedAfter (frame.Keep) fs used = used
@@ -47,8 +47,7 @@ pub record Step : Type 0 where
 unfoldable pub gaugeWith : Gauge → Answer → ℕ → ℕ → Gauge
 gaugeWith g a used frames =
     given (valuesOf a) λ v.
-    need (eqb (v .number) 0) g
-    (after g used frames)
+    choose (eqb (v .number) 0) (after g used frames) g
 
 unfoldable pub ruleWith : Hpa → Tables → Gauge → ℕ → Call → Step
 ruleWith base t g used c =

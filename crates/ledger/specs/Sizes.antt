@@ -2,7 +2,7 @@
 use Prim.Native.Nat.{ℕ, _+_, _-_, _/_, _%_}
 use mathlib.Core.Bool.{Bool, false}
 use lib.Dec.{eqb, ltb}
-use Rattle.rules.specs.Rule.{iff, need, given}
+use Rattle.rules.specs.Rule.{choose, need, given}
 use Rattle.units.specs.Limits as limits
 use Rattle.stock.specs.Bits.{wordBits}
 use Rattle.units.specs.declared.address.Hpa.{Hpa}
@@ -18,11 +18,11 @@ abbrev pub bitsOf : ℕ → ℕ → ℕ
 bitsOf domains entries = entries / limits.tableEntries
 
 unfoldable pub bitOf : ℕ → ℕ → ℕ → ℕ
-bitOf domains entries r = iff (ltb r (domains / limits.recordWords)) (tablesOf domains entries + r) (bitsOf domains entries)
+bitOf domains entries r = choose (ltb r (domains / limits.recordWords)) (tablesOf domains entries + r) (bitsOf domains entries)
 
 -- the block of record r's root; a record beyond the stock has none: the block after the last
 unfoldable pub rootOf : ℕ → ℕ → ℕ → ℕ
-rootOf domains entries r = iff (ltb r (domains / limits.recordWords)) (tablesOf domains entries + r) (entries / limits.tableEntries)
+rootOf domains entries r = choose (ltb r (domains / limits.recordWords)) (tablesOf domains entries + r) (entries / limits.tableEntries)
 
 unfoldable pub sizesOf : ℕ → ℕ → ℕ → Sizes
 sizesOf frames domains entries = record {

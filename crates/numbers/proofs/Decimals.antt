@@ -7,29 +7,29 @@ use native.Mathlib.Omega.{arith}
 use borrow.Author.Tests.{lt-ltb, le-ltb, le-leb, ltb-true, ltb-false}
 use lib.Dec.{ltb}
 use lib.ListN.{length, getD}
-use Rattle.rules.specs.Rule.{iff}
-use Rattle.rules.proofs.Steps.{if-ne, if-true, if-le, iff-both, both-left, both-right}
+use Rattle.rules.specs.Rule.{choose}
+use Rattle.rules.proofs.Steps.{if-ne, if-true, if-le, choose-both, both-left, both-right}
 use Rattle.units.specs.Limits.{between}
 use Rattle.numbers.specs.Number.{numberMost, nought, isDigit, allDigits, valueFrom, numberFrom, numberOf, digitsBy, decimal}
 use Rattle.numbers.specs.declared.Number.the-variants.{Is}
 
 -- any number of divisions from n on gives the same digits
 enough : (k m n : ℕ) → n ≤ k → n ≤ m → digitsBy k n ≡ digitsBy m n
-unfolding digitsBy iff
+unfolding digitsBy choose
 enough zero zero n h l = refl
 enough zero (suc m) n h l = rw (lt-ltb n 10 (omega arith))
 enough (suc k) zero n h l = rw (lt-ltb n 10 (omega arith))
 enough (suc k) (suc m) n h l =
-    iff-both (λ (t : List ℕ). t ≡ digitsBy (suc m) n) (ltb n 10) _ _
+    choose-both (λ (t : List ℕ). t ≡ digitsBy (suc m) n) (ltb n 10) _ _
     (λ q. rw q)
     (λ q. let g = ltb-false n 10 q in rw (q, enough k m (n / 10) (omega arith) (omega arith)))
 
 pub decimal-one : (n : ℕ) → n < 10 → decimal n ≡ (nought + n) ∷ []
-unfolding digitsBy iff
+unfolding digitsBy choose
 decimal-one n h = enough n (suc n) n (omega arith) (omega arith) ∙ rw (lt-ltb n 10 h)
 
 pub decimal-more : (n : ℕ) → 10 ≤ n → decimal n ≡ decimal (n / 10) ++ ((nought + n % 10) ∷ [])
-unfolding digitsBy iff
+unfolding digitsBy choose
 decimal-more n h =
     enough n (suc n) n (omega arith) (omega arith)
     ∙ rw (le-ltb n 10 h, enough n (n / 10) (n / 10) (omega arith) (omega arith))
@@ -40,7 +40,7 @@ value-snoc v [] d = refl
 value-snoc v (c ∷ ds) d = value-snoc (v * 10 + (c - nought)) ds d
 
 digits-snoc : (ds : List ℕ) (d : ℕ) → allDigits ds ≡ true → d < 10 → allDigits (ds ++ ((nought + d) ∷ [])) ≡ true
-unfolding allDigits between iff
+unfolding allDigits between choose
 digits-snoc [] d e h = rw (le-leb nought (nought + d) (omega arith), le-leb (nought + d) (nought + 9) (omega arith))
 digits-snoc (c ∷ ds) d e h = rw (both-left (isDigit c) _ e) (digits-snoc ds d (both-right (isDigit c) _ e) h)
 
@@ -70,7 +70,7 @@ spells-by : (k n : ℕ) → n ≤ k → Spells n (digitsBy k n)
 unfolding digitsBy
 spells-by zero n h = spells-one n (omega arith)
 spells-by (suc k) n h =
-    iff-both (Spells n) (ltb n 10) _ _
+    choose-both (Spells n) (ltb n 10) _ _
     (λ q. spells-one n (ltb-true n 10 q))
     (λ q. let g = ltb-false n 10 q in spells-more n _ g (spells-by k (n / 10) (omega arith)))
 
@@ -85,6 +85,6 @@ reads n (d ∷ ds) s l h =
 
 -- for readers: what is written reads back as the number
 pub read-back : (n : ℕ) → n ≤ numberMost → numberOf (decimal n) ≡ Is n
-unfolding numberOf digitsBy iff
+unfolding numberOf digitsBy choose
 read-back zero h = refl
 read-back (suc n) h = sym (reads (suc n) (decimal (suc n)) (spells-by (suc n) (suc n) (omega arith)) (omega arith) h)

@@ -7,8 +7,8 @@ use native.Mathlib.Nat.{le-trans}
 use native.Mathlib.Omega.{arith}
 use borrow.Author.Tests.{not-true, not-false, lt-leb, le-leb}
 use lib.ListN.{length, getD, drop, drop-of-length-le}
-use Rattle.rules.specs.Rule.{iff}
-use Rattle.rules.proofs.Steps.{iff-both}
+use Rattle.rules.specs.Rule.{choose}
+use Rattle.rules.proofs.Steps.{choose-both}
 use Rattle.numbers.specs.declared.Number.the-variants.{Is, No}
 use Rattle.numbers.specs.Number.{numberMost, nought, isDigit, allDigits, valueFrom, numberFrom}
 use Rattle.numbers.proofs.Lists.{next}
@@ -19,10 +19,10 @@ value-grows v [] = omega arith
 value-grows v (d ∷ ds) = le-trans (omega arith) (value-grows (v * 10 + (d - nought)) ds)
 
 too-big : (v : ℕ) (ds : List ℕ) → numberMost < v → No ≡ numberFrom v ds
-unfolding numberFrom iff
+unfolding numberFrom choose
 too-big v ds h =
     let e = lt-leb (valueFrom v ds) numberMost (omega (arith, value-grows v ds)) in
-    iff-both (λ n. No ≡ n) (allDigits ds) _ No (λ _. rw e) (λ _. refl)
+    choose-both (λ n. No ≡ n) (allDigits ds) _ No (λ _. rw e) (λ _. refl)
 
 -- what the loop over a field's digits keeps at i: v is what they spell so far
 pub record Spelling (field : List ℕ) (v i : ℕ) : Type 0 where
@@ -35,11 +35,11 @@ spelling-none field = record { small = omega arith; left = refl }
 -- r tells whether a digit stands at i
 module _ {field : List ℕ} {v i : ℕ} {r : Bool} (s : Spelling field v i) (h : i < length field) (t : r ≡ isDigit (getD field i 0)) where
   pub spelling-stop : not r ≡ true → No ≡ numberFrom 0 field
-  unfolding numberFrom allDigits iff
+  unfolding numberFrom allDigits choose
   spelling-stop f = rw (s .left, next field i h, ← t, not-true r f)
 
   more : {d : ℕ} → not r ≡ false → d ≡ getD field i 0 - nought → numberFrom 0 field ≡ numberFrom (v * 10 + d) (drop (i + 1) field)
-  unfolding numberFrom allDigits valueFrom iff
+  unfolding numberFrom allDigits valueFrom choose
   more f q = rw (s .left, next field i h, ← t, not-false r f, q)
 
   pub spelling-over : {d : ℕ} → not r ≡ false → d ≡ getD field i 0 - nought → (numberMost - d) / 10 < v → No ≡ numberFrom 0 field
@@ -49,5 +49,5 @@ module _ {field : List ℕ} {v i : ℕ} {r : Bool} (s : Spelling field v i) (h :
   spelling-more f q l g = record { small = omega arith; left = more f q }
 
 pub spelling-end : {field : List ℕ} {v i : ℕ} → Spelling field v i → length field ≤ i → Is v ≡ numberFrom 0 field
-unfolding numberFrom allDigits valueFrom iff
+unfolding numberFrom allDigits valueFrom choose
 spelling-end {field} {v} s h = rw (s .left, drop-of-length-le field h, le-leb v numberMost (s .small))

@@ -4,7 +4,7 @@ use mathlib.Core.Bool.{Bool, true, false}
 use mathlib.Core.List.{List, [], _∷_, _++_}
 use lib.Dec.{eqb, ltb, leb}
 use lib.ListN.{length, getD}
-use Rattle.rules.specs.Rule.{iff, need}
+use Rattle.rules.specs.Rule.{choose, need}
 use Rattle.units.specs.Limits.{between}
 use Rattle.numbers.specs.declared.Number.{Number}
 use Rattle.numbers.specs.declared.Number.the-variants.{Is, No}
@@ -21,7 +21,7 @@ isDigit b = between nought b (nought + 9)
 
 unfoldable pub allDigits : List ℕ → Bool
 allDigits [] = true
-allDigits (d ∷ ds) = iff (isDigit d) (allDigits ds) false
+allDigits (d ∷ ds) = choose (isDigit d) (allDigits ds) false
 
 -- the number that the digits spell, after those that spell v
 unfoldable pub valueFrom : ℕ → List ℕ → ℕ
@@ -38,14 +38,14 @@ numberFrom v ds =
 -- "no leading zero but 0 itself"
 unfoldable pub numberOf : List ℕ → Number
 numberOf field =
-    iff (eqb (length field) 0) No (
-    iff (eqb (getD field 0 0) nought) (need (eqb (length field) 1) No (Is 0))
+    choose (eqb (length field) 0) No (
+    choose (eqb (getD field 0 0) nought) (need (eqb (length field) 1) No (Is 0))
     (numberFrom 0 field))
 
 -- a number's digits, in at most k divisions by ten
 unfoldable pub digitsBy : ℕ → ℕ → List ℕ
 digitsBy zero n = (nought + n) ∷ []
-digitsBy (suc k) n = iff (ltb n 10) ((nought + n) ∷ []) (digitsBy k (n / 10) ++ ((nought + n % 10) ∷ []))
+digitsBy (suc k) n = choose (ltb n 10) ((nought + n) ∷ []) (digitsBy k (n / 10) ++ ((nought + n % 10) ∷ []))
 
 -- how a number is written; n divisions are always enough
 abbrev pub decimal : ℕ → List ℕ

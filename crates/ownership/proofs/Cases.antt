@@ -8,14 +8,14 @@ use native.Mathlib.Omega.{arith}
 use native.Mathlib.Decide.{ℕ-discrete, decLt}
 use lib.Dec.{eqb}
 use borrow.Author.Tests.{eq-eqb, ne-eqb}
-use Rattle.rules.specs.Rule.{iff}
+use Rattle.rules.specs.Rule.{choose}
 use Rattle.ledger.specs.Codes.{NDA, TDR, TDCX, EPT, REG, TEARDOWN}
 use Rattle.keeps.specs.Views.{View, kind, owner, number, life, listed, children}
 use Rattle.ownership.specs.Owned.{Found, found, Shape, Tree, nothing, table, page, branch, walk, weight, times, same, without, each, one, Extent, rootOf, tree, controls, treeOf, finds, mine, Keyed, Block, root, below, Belongs, shape, points}
 use Rattle.ownership.specs.Reached.{Lists, noted}
 use Rattle.ownership.proofs.Sums.{size, same-refl, weight-append, weight-mono, each-cong}
 use Rattle.ownership.proofs.Walk.{reads, deeper, Edit, change, Path·to, table-le, times-self, Alike, same-walk, walk-empty, reads-empty, blank}
-use Rattle.ownership.proofs.Domain.{Mine, Mine?, is, not, mine-one, mine-iff, mine?, Home, home, table-mine, home-below, SameFrame, SameEntry, SameRecord, kept-walk}
+use Rattle.ownership.proofs.Domain.{Mine, Mine?, is, not, mine-one, mine-choose, mine?, Home, home, table-mine, home-below, SameFrame, SameEntry, SameRecord, kept-walk}
 use Rattle.ownership.specs.Always.{Numbered, a-record, a-table, blockOf}
 use Rattle.ownership.proofs.Sound.{held, held-key, held-freed, held-none, childs-tdr, childs-none, Sound, owns-walk, walk-once, walk-mine, reads-one, path-block, Spare, holds, holds-size, not-free}
 use Rattle.ownership.proofs.Shift.{Whose, itself, its, nobodys, Moves, keeps, moves, Spot, same-spot, own-spot, spare-spot, Numbering, as-before, afresh, Shift}
@@ -67,7 +67,7 @@ module _ (s : View) (d f : ℕ) (x : Found) where
   list-other (its b) e = rw (ne-eqb (x .frame) f e) refl
 
 same-mine : (s s′ : View) (d : ℕ) (x : Found) → kind s′ (x .frame) ≡ kind s (x .frame) → owner s′ (x .frame) ≡ owner s (x .frame) → mine s′ d x ≡ mine s d x
-same-mine s s′ d x k o = mine-iff s s′ d d x
+same-mine s s′ d x k o = mine-choose s s′ d d x
     (λ m. record { typed = m .typed; kind = k ∙ m .kind; owner = o ∙ m .owner })
     (λ m. record { typed = m .typed; kind = sym k ∙ m .kind; owner = sym o ∙ m .owner })
 
@@ -458,7 +458,7 @@ module _ (z : Extent) (s : View) (l : Lists) (ok : Sound z s l) (s′ : View) (d
   lives-shift k = quiet-shift l (held-key z s′ l d (record { tdr = qu-same d .0 ∙ p .keyed .tdr; held = k }) ∙ qu-finds) (λ e _. refl)
 
   pub freed-shift : life s′ (number s′ d) ≡ TEARDOWN → Shift z s s′ l (noted l d (finds z s d)) d [] []
-  unfolding iff
+  unfolding choose
   freed-shift k = quiet-shift (noted l d (finds z s d)) (held-freed z s′ (noted l d (finds z s d)) d (qu-same d .0 ∙ p .keyed .tdr) k ∙ rw (eq-eqb d d refl) refl)
       (λ e ne. rw (ne-eqb e d ne) refl)
 
@@ -510,14 +510,14 @@ module _ (z : Extent) (s : View) (l : Lists) (ok : Sound z s l) (s′ : View) (F
 
 -- frame f isn't listed: there is nothing to strike out
 without-absent : (f : ℕ) (l : List Found) → ((x : Found) → 1 ≤ times x l → x .frame ≡ f → ⊥) → without f l ≡ l
-unfolding without weight iff
+unfolding without weight choose
 without-absent f [] h = refl
 without-absent f (x ∷ l) h =
     rw (ne-eqb (x .frame) f (h x (omega (arith, ap one (same-refl x)))))
     (ap (λ (m : List Found). x ∷ m) (without-absent f l (λ y k. h y (omega arith))))
 
 weight-without : (q : Found → ℕ) (f : ℕ) (l : List Found) → weight q l ≡ weight q (without f l) + weight (λ y. one (eqb (y .frame) f) * q y) l
-unfolding without weight iff
+unfolding without weight choose
 weight-without q f [] = refl
 weight-without q f (y ∷ l) = go (ℕ-discrete (y .frame) f) (weight-without q f l)
   where

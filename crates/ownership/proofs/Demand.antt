@@ -8,8 +8,8 @@ use lib.Dec.{eqb}
 use lib.Ieee.{Float}
 use lib.ListN.{length}
 use borrow.Author.Tests.{eqb-true, eq-eqb}
-use Rattle.rules.specs.Rule.{iff, given}
-use Rattle.rules.proofs.Steps.{iff-both}
+use Rattle.rules.specs.Rule.{choose, given}
+use Rattle.rules.proofs.Steps.{choose-both}
 use Rattle.units.specs.declared.address.Hpa.{Hpa}
 use Rattle.units.specs.declared.address.Place.the-variants as place
 use Rattle.gauge.specs.Marks.{marksOk}
@@ -70,7 +70,7 @@ not-thirteen e = omega arith
 
 fresh-state : (base : Hpa) (t : Tables) (g : Gauge) → Accepted (resetOf base t g) → State base (resetOf base t g .tables) (λ x. [])
 unfolding resetOf
-fresh-state base t g = iff-both (λ (o : Outcome). Accepted o → State base (o .tables) (λ x. [])) _ _ _
+fresh-state base t g = choose-both (λ (o : Outcome). Accepted o → State base (o .tables) (λ x. [])) _ _ _
     (λ e _. zeros-state base t e)
     (λ _ a. absurd (not-thirteen a))
 
@@ -87,9 +87,9 @@ same-extent q = rw (q .domains, q .entries) refl
 
 module _ (base : Hpa) (t : Tables) (g : Gauge) (l : Lists) (st : State base t l) (c : Call) where
   by-plan : {p : Plan} → Good base t l c p → Keep base t p → Answered base t g l c (settled g (carried t p))
-  unfolding settled carried iff valuesOf
+  unfolding settled carried choose valuesOf
   by-plan (answers {a} m) _ = record {
-    state = iff-both (State base t) (eqb (numberOf a) _) _ l (λ q. absurd (omega (arith, m .some, eqb-true (numberOf a) _ q))) (λ _. st);
+    state = choose-both (State base t) (eqb (numberOf a) _) _ l (λ q. absurd (omega (arith, m .some, eqb-true (numberOf a) _ q))) (λ _. st);
     mild = omega (arith, m .few);
     few = λ _. m .few;
     alone = λ q. absurd (omega (arith, m .some));
@@ -115,26 +115,26 @@ module _ (base : Hpa) (t : Tables) (g : Gauge) (l : Lists) (st : State base t l)
       now = rw (same-extent (same-lengths e t)) (shifted (extent t) (view t) l (st .ok) (view (applied e t)) (left base t (roleOf c) l) (n .0) gone come (now-does .shift))
 
   thirteen : marksOk (g .raise) (g .clear) (length (t .frames)) ≡ false → Answered base t g l c (outcome (answer.No 13 0) t g)
-  unfolding valuesOf iff
+  unfolding valuesOf choose
   thirteen u = record { state = st; mild = omega arith; few = λ v. absurd (true≢false (sym v ∙ u)); alone = λ a. absurd (omega arith) }
 
   pub called-well : Answered base t g l c (callOf base t g c)
   unfolding callOf ruleOf
-  called-well = iff-both (Answered base t g l c) _ _ _
-      (λ _. iff-both (Answered base t g l c) _ _ _ (λ _. by-plan (plan-good base t l st c) (plan-keeps base t (st .lent) c)) thirteen)
+  called-well = choose-both (Answered base t g l c) _ _ _
+      (λ _. choose-both (Answered base t g l c) _ _ _ (λ _. by-plan (plan-good base t l st c) (plan-keeps base t (st .lent) c)) thirteen)
       (λ u. absurd (true≢false (sym (of-lent base t (st .lent)) ∙ u)))
 
 -- setting the marks leaves the tables
 marked-state : (base : Hpa) (t : Tables) (g : Gauge) (l : Lists) → State base t l → (raise clear : Float) → State base (marksOf base t g raise clear .tables) l
 unfolding marksOf given
-marked-state base t g l st raise clear = iff-both (λ (o : Outcome). State base (o .tables) l) _ _ _
-    (λ _. iff-both (λ (o : Outcome). State base (o .tables) l) _ _ _ (λ _. st) (λ _. st))
+marked-state base t g l st raise clear = choose-both (λ (o : Outcome). State base (o .tables) l) _ _ _
+    (λ _. choose-both (λ (o : Outcome). State base (o .tables) l) _ _ _ (λ _. st) (λ _. st))
     (λ _. st)
 
 marks-few : (base : Hpa) (t : Tables) (g : Gauge) (l : Lists) → State base t l → (raise clear : Float) → numberOf (marksOf base t g raise clear .answer) < 13
 unfolding marksOf given valuesOf
-marks-few base t g l st raise clear = iff-both (λ (o : Outcome). numberOf (o .answer) < 13) _ _ _
-    (λ _. iff-both (λ (o : Outcome). numberOf (o .answer) < 13) _ _ _ (λ _. omega arith) (λ _. omega arith))
+marks-few base t g l st raise clear = choose-both (λ (o : Outcome). numberOf (o .answer) < 13) _ _ _
+    (λ _. choose-both (λ (o : Outcome). numberOf (o .answer) < 13) _ _ _ (λ _. omega arith) (λ _. omega arith))
     (λ u. absurd (true≢false (sym (of-lent base t (st .lent)) ∙ u)))
 
 pub state : {base : Hpa} {t : Tables} {l : Lists} → Reached base t l → State base t l

@@ -71,8 +71,8 @@ mine-one s d x h = go (mine? s d x)
     go (is m e) = m
     go (not m e) = absurd (omega arith)
 
-pub mine-iff : (s s′ : View) (d d′ : ℕ) (x : Found) → (Mine s d x → Mine s′ d′ x) → (Mine s′ d′ x → Mine s d x) → mine s′ d′ x ≡ mine s d x
-mine-iff s s′ d d′ x f g = go (mine? s d x) (mine? s′ d′ x)
+pub mine-choose : (s s′ : View) (d d′ : ℕ) (x : Found) → (Mine s d x → Mine s′ d′ x) → (Mine s′ d′ x → Mine s d x) → mine s′ d′ x ≡ mine s d x
+mine-choose s s′ d d′ x f g = go (mine? s d x) (mine? s′ d′ x)
   where
     go : Mine? s d x → Mine? s′ d′ x → mine s′ d′ x ≡ mine s d x
     go (is m e) (is m′ e′) = omega (arith, e, e′)
@@ -131,7 +131,7 @@ module _ (z : Extent) (s s′ : View) (e : ℕ) (u : Untouched z s s′ e) where
   u-record = same-record s s′ (number s e) (u .record′) (u .pages)
 
   pub untouched-mine : (x : Found) → mine s′ e x ≡ mine s e x
-  untouched-mine x = mine-iff s s′ e e x to from
+  untouched-mine x = mine-choose s s′ e e x to from
     where
       to : Mine s e x → Mine s′ e x
       to m = let k = same-frame s s′ (x .frame) (u .kept (x .frame) (record { type = rw (m .kind) (m .typed); owner = m .owner })) in

@@ -4,7 +4,7 @@ use mathlib.Core.Path.{_≡_, refl}
 use Prim.Native.Nat.{ℕ, _-_, _<_}
 use native.Mathlib.Decide.{ℕ-discrete}
 use borrow.Author.Tests.{eq-eqb, ne-eqb}
-use Rattle.rules.specs.Rule.{iff}
+use Rattle.rules.specs.Rule.{choose}
 use Rattle.units.specs.declared.address.Hpa.{Hpa}
 use Rattle.ledger.specs.Codes.{FREE, NL-MAPPED, NL-BLOCKED}
 use Rattle.walk.specs.Walk.{entryType}
@@ -42,15 +42,15 @@ reads-page kind h = refl
 -- ---- an entry's state
 
 pub free-shape : (n : ℕ) → n ≡ FREE → shapeOf n ≡ nothing
-unfolding shapeOf iff
+unfolding shapeOf choose
 free-shape n e = rw (eq-eqb n FREE e) refl
 
 pub table-shape : (n : ℕ) → n ≡ NL-MAPPED → shapeOf n ≡ table
-unfolding shapeOf iff
+unfolding shapeOf choose
 table-shape n e = rw e refl
 
 pub fits-state : (n : ℕ) → (n ≡ FREE → ⊥) → Fits (shapeOf n) (entryType n)
-unfolding shapeOf entryType iff
+unfolding shapeOf entryType choose
 fits-state n h = go (ℕ-discrete n NL-MAPPED) (ℕ-discrete n NL-BLOCKED)
   where
     go : Dec (n ≡ NL-MAPPED) → Dec (n ≡ NL-BLOCKED) → Fits (shapeOf n) (entryType n)

@@ -9,8 +9,8 @@ use native.Mathlib.Decide.{ℕ-discrete}
 use lib.Dec.{eqb, ltb}
 use lib.ListN.{length}
 use borrow.Author.Tests.{eqb-true, eqb-false, ltb-true, lt-ltb, ne-eqb, eq-eqb}
-use Rattle.rules.specs.Rule.{iff, given}
-use Rattle.rules.proofs.Steps.{iff-both}
+use Rattle.rules.specs.Rule.{choose, given}
+use Rattle.rules.proofs.Steps.{choose-both}
 use Rattle.rules.proofs.Uptos.{all-at, at-from}
 use Rattle.levels.specs.Level.{topLevel}
 use Rattle.units.specs.Limits.{tableEntries, controlPages}
@@ -88,7 +88,7 @@ not-child a-table a b q = b q
 
 -- a state that is blocked or unblocked keeps its shape
 blocked-shape : (n : ℕ) → NL-MAPPED ≤ n → n ≤ PENDING → shapeOf (blockedState n) ≡ shapeOf n
-unfolding blockedState shapeOf iff
+unfolding blockedState shapeOf choose
 blocked-shape n lo hi = go (ℕ-discrete n NL-MAPPED) (ℕ-discrete n MAPPED) (ℕ-discrete n PENDING)
   where
     go : Dec (n ≡ NL-MAPPED) → Dec (n ≡ MAPPED) → Dec (n ≡ PENDING) → shapeOf (blockedState n) ≡ shapeOf n
@@ -98,7 +98,7 @@ blocked-shape n lo hi = go (ℕ-discrete n NL-MAPPED) (ℕ-discrete n MAPPED) (�
     go (no a) (no b) (no c) = absurd (omega arith)
 
 unblocked-shape : (n : ℕ) → NL-BLOCKED ≤ n → n ≤ PENDING-BLOCKED → shapeOf (unblockedState n) ≡ shapeOf n
-unfolding unblockedState shapeOf iff
+unfolding unblockedState shapeOf choose
 unblocked-shape n lo hi = go (ℕ-discrete n NL-BLOCKED) (ℕ-discrete n BLOCKED) (ℕ-discrete n PENDING-BLOCKED)
   where
     go : Dec (n ≡ NL-BLOCKED) → Dec (n ≡ BLOCKED) → Dec (n ≡ PENDING-BLOCKED) → shapeOf (unblockedState n) ≡ shapeOf n
@@ -169,7 +169,7 @@ module _ (base : Hpa) (t : Tables) (l : Lists) (st : State base t l) where
       → Good base t l c (plans.lifePlan base t d least most now)
   unfolding plans.lifePlan given
   life-good c d least most now lo hi su le = on-domain c d _ (λ n q k. good n (su ∙ q) le (
-      iff-both (Turn base t l l (n .0)) _ _ _
+      choose-both (Turn base t l l (n .0)) _ _ _
       (λ e.
       let a = between-true least (life (view t) (number (view t) (n .0))) most e in
       become-turn base t l st (n .0) (record { tdr = k; held = λ z. omega (arith, a) }) _ refl refl refl (λ u. u) (λ z. omega arith))
@@ -178,7 +178,7 @@ module _ (base : Hpa) (t : Tables) (l : Lists) (st : State base t l) where
   keyfree-good : (d : Hpa) → Good base t l (call.KeyFree d) (plans.keyfreePlan base t d)
   unfolding plans.lifePlan subject left roleOf given onPlace
   keyfree-good d = on-domain (call.KeyFree d) d _ (λ n q k. good n q (rw q refl) (
-      iff-both (Turn base t l (noted l (n .0) (finds (extent t) (view t) (n .0))) (n .0)) _ _ _
+      choose-both (Turn base t l (noted l (n .0) (finds (extent t) (view t) (n .0))) (n .0)) _ _ _
       (λ e.
       let a = between-true BLOCKED-LIFE (life (view t) (number (view t) (n .0))) BLOCKED-LIFE e in
       free-turn base t l st (n .0) (record { tdr = k; held = λ z. omega (arith, a) }) _ refl refl refl (λ u. u) refl)
@@ -192,7 +192,7 @@ module _ (base : Hpa) (t : Tables) (l : Lists) (st : State base t l) where
   track-good : (d : Hpa) → Good base t l (call.Track d) (plans.trackPlan base t d)
   unfolding plans.trackPlan subject left roleOf given
   track-good d = on-built (call.Track d) d INITIALIZED RUNNABLE _ (λ n q k _. good n q refl (
-      iff-both (Turn base t l l (n .0)) _ _ _
+      choose-both (Turn base t l l (n .0)) _ _ _
       (λ _. become-turn base t l st (n .0) k _ refl refl refl (λ u. u) (k .held))
       (λ _. refused 12 0 (omega arith) (omega arith))))
 
@@ -201,15 +201,15 @@ module _ (base : Hpa) (t : Tables) (l : Lists) (st : State base t l) where
   gain-room d F k h free = lt-ltb _ _ (count-room base t l st d F k h free)
 
   pub addcx-good : (d f : Hpa) → Good base t l (call.AddCx d f) (plans.addcxPlan base t d f)
-  unfolding plans.addcxPlan plans.enlistAt gain subject left roleOf given iff
+  unfolding plans.addcxPlan plans.enlistAt gain subject left roleOf given choose
   addcx-good d f = on-offer (call.AddCx d f) d f 1 _ (λ m h′ n q k. good n q refl (
-      iff-both (Turn base t l l (n .0)) _ _ _
+      choose-both (Turn base t l l (n .0)) _ _ _
       (λ e.
       let a : life (view t) (number (view t) (n .0)) ≡ CONFIGURED = eqb-true _ _ e in
-      iff-both (Turn base t l l (n .0)) _ _ _
+      choose-both (Turn base t l l (n .0)) _ _ _
       (λ e′.
       let b : listed (view t) (number (view t) (n .0)) < controlPages = ltb-true _ _ e′ in
-      iff-both (Turn base t l l (n .0)) _ _ _
+      choose-both (Turn base t l l (n .0)) _ _ _
       (λ e″.
       let c = is-nda t m e″ in
       rw (gain-room (n .0) (m .0) k h′ c) (enlist-turn base t l st (n .0) (record { tdr = k; held = λ z. omega arith }) b (m .0) c))
@@ -219,7 +219,7 @@ module _ (base : Hpa) (t : Tables) (l : Lists) (st : State base t l) where
 
   -- a key that create may give is no keyed domain's
   sole : (key′ : ℕ) → plans.keyUnused (t .domains) (t .stock) (extent t .tables) (length (t .entries) / tableEntries) key′ ≡ true → (e : ℕ) → Keyed (view t) e → key (view t) (number (view t) e) ≡ key′ → ⊥
-  unfolding plans.keyUnused plans.otherKey given iff
+  unfolding plans.keyUnused plans.otherKey given choose
   sole key′ u e k q =
       let n = number (view t) e in
       let low = record-low base t (st .lent) e (k .tdr) in
@@ -230,9 +230,9 @@ module _ (base : Hpa) (t : Tables) (l : Lists) (st : State base t l) where
   pub create-good : (f : Hpa) (key′ : ℕ) → Good base t l (call.Create f key′) (plans.createPlan base t f key′)
   unfolding plans.createPlan plans.createAt plans.newRecord subject left roleOf given
   create-good f key′ = on-frame (call.Create f key′) f 0 _ (λ n q h. good n q refl (
-      iff-both (Turn base t l l (n .0)) _ _ _
-      (λ e. iff-both (Turn base t l l (n .0)) _ _ _
-      (λ e′. iff-both (Turn base t l l (n .0)) _ _ _
+      choose-both (Turn base t l l (n .0)) _ _ _
+      (λ e. choose-both (Turn base t l l (n .0)) _ _ _
+      (λ e′. choose-both (Turn base t l l (n .0)) _ _ _
       (λ alone. on-lowest (Turn base t l l (n .0)) _ (refuse 11 0) _ (refused 11 0 (omega arith) (omega arith)) (λ b a.
       let w = lowest-found (t .stock) _ _ b a in
       let first : ℕ = extent t .tables in
@@ -255,7 +255,7 @@ module _ (base : Hpa) (t : Tables) (l : Lists) (st : State base t l) where
   was-free n m b i e o = omega (arith, o .entry .state, ap (λ (y : Entry). y .state) (o .entry .entry))
 
   pub septadd-good : (d : Hpa) (gpa : Gpa) (level : ℕ) (f : Hpa) → Good base t l (call.SeptAdd d gpa level f) (adds.septaddPlan base t d gpa level f)
-  unfolding adds.septaddPlan adds.septAt gain subject left roleOf given iff
+  unfolding adds.septaddPlan adds.septAt gain subject left roleOf given choose
   septadd-good d gpa level f = on-spot (call.SeptAdd d gpa level f) d gpa level 1 f 3 INITIALIZED RUNNABLE _ (λ m h′ n q k live. good n q refl (
       on-reach (Turn base t l l (n .0)) (offer n k gpa level m 3) Say _ (λ a z. says z) (λ b i x ix.
       on-lowest (Turn base t l l (n .0)) _ (refuse 11 0) _ (refused 11 0 (omega arith) (omega arith)) (λ j a.
@@ -266,7 +266,7 @@ module _ (base : Hpa) (t : Tables) (l : Lists) (st : State base t l) where
 
   page-good : (c : Call) (d : Hpa) (gpa : Gpa) (f : Hpa) (op′ state : ℕ) → shapeOf state ≡ page → INITIALIZED ≤ op′
       → subject base t (roleOf c) ≡ placeIn base t d → left base t (roleOf c) l ≡ l → Good base t l c (adds.pagePlan base t d gpa f op′ state)
-  unfolding adds.pagePlan adds.pageAt gain given iff
+  unfolding adds.pagePlan adds.pageAt gain given choose
   page-good c d gpa f op′ state sh init su le = on-spot c d gpa 0 0 f 2 op′ op′ _ (λ m h′ n q k since. good n (su ∙ q) le (
       on-reach (Turn base t l l (n .0)) (offer n k gpa 0 m 2) Say _ (λ a y. says y) (λ b i x ix.
       rw (gain-room (n .0) (m .0) (k .tdr) h′ (ix .free))
@@ -274,11 +274,11 @@ module _ (base : Hpa) (t : Tables) (l : Lists) (st : State base t l) where
       (newReg (frame (n .0))) refl state (rw sh fits-page) (stocks.Keep) (no-table (λ z. omega arith))))))
 
   mapped-shape : shapeOf MAPPED ≡ page
-  unfolding shapeOf iff
+  unfolding shapeOf choose
   mapped-shape = refl
 
   pending-shape : shapeOf PENDING ≡ page
-  unfolding shapeOf iff
+  unfolding shapeOf choose
   pending-shape = refl
 
   pub pageadd-good : (d : Hpa) (gpa : Gpa) (f : Hpa) → Good base t l (call.PageAdd d gpa f) (adds.pageaddPlan base t d gpa f)
@@ -290,10 +290,10 @@ module _ (base : Hpa) (t : Tables) (l : Lists) (st : State base t l) where
   pageaug-good d gpa f = page-good (call.PageAug d gpa f) d gpa f RUNNABLE PENDING pending-shape (omega arith) refl refl
 
   block-turn : (d b i : ℕ) (e : Entry) → Keyed (view t) d → INITIALIZED ≤ op (view t) (number (view t) d) → IsEntry t d NL-MAPPED PENDING b i e
-      → Turn base t l l d (iff (ownFrame (t .frames) (t .stock) (frame d) e)
+      → Turn base t l l d (choose (ownFrame (t .frames) (t .stock) (frame d) e)
       (Do (edit (frames.Set (e .frame) (withFrameEpoch (frameAt (t .frames) (e .frame)) (view t .domain (number (view t) d) .epoch))) (pageEdits.Keep) (domainEdits.Keep) (stocks.Keep) (entries.Set b i (entry (blockedState (e .state)) (e .frame)))))
       (refuse 14 0))
-  unfolding iff
+  unfolding choose
   block-turn d b i e k live ie =
       let F : ℕ = points (view t) b i in
       let q = ap (λ (y : Entry). y .state) (ie .entry) in
@@ -334,11 +334,11 @@ module _ (base : Hpa) (t : Tables) (l : Lists) (st : State base t l) where
   lose-some d F k b = ne-eqb _ _ (λ (q : children (view t) (number (view t) d) ≡ 0). omega (arith, count-some base t l st d F b k))
 
   page-type : (n : ℕ) → BLOCKED ≤ n → entryType n ≡ REG
-  unfolding entryType iff
+  unfolding entryType choose
   page-type n h = rw (ne-eqb n NL-MAPPED (λ q. omega arith), ne-eqb n NL-BLOCKED (λ q. omega arith)) refl
 
   table-type : (n : ℕ) → n ≡ NL-BLOCKED → entryType n ≡ EPT
-  unfolding entryType iff
+  unfolding entryType choose
   table-type n h = rw h refl
 
   entry-belongs : (d b i : ℕ) → Keyed (view t) d → IsSpot t d b i → (view t .entry b i .state ≡ FREE → ⊥) → Belongs (view t) d (points (view t) b i)
@@ -346,7 +346,7 @@ module _ (base : Hpa) (t : Tables) (l : Lists) (st : State base t l) where
 
   pageremove-turn : (d b i : ℕ) (e : Entry) → Keyed (view t) d → INITIALIZED ≤ op (view t) (number (view t) d) → IsEntry t d BLOCKED PENDING-BLOCKED b i e
       → Turn base t l l d (lose (looked t d) (e .frame) (stocks.Keep) (entries.Set b i freeEntry))
-  unfolding iff lose given
+  unfolding choose lose given
   pageremove-turn d b i e k live ie =
       let q = ap (λ (y : Entry). y .state) (ie .entry) in
       let some : view t .entry b i .state ≡ FREE → ⊥ = λ z. omega (arith, ie .state) in
@@ -365,9 +365,9 @@ module _ (base : Hpa) (t : Tables) (l : Lists) (st : State base t l) where
   empty-at b e j h = eqb-true _ _ (all-at (freeAt (t .entries) b) tableEntries e j h)
 
   septremove-turn : (d b i : ℕ) (e : Entry) → Keyed (view t) d → INITIALIZED ≤ op (view t) (number (view t) d) → IsEntry t d NL-BLOCKED NL-BLOCKED b i e
-      → Turn base t l l d (iff (tableEmpty (t .entries) (frameAt (t .frames) (e .frame) .number))
+      → Turn base t l l d (choose (tableEmpty (t .entries) (frameAt (t .frames) (e .frame) .number))
       (lose (looked t d) (e .frame) (stocks.Give (frameAt (t .frames) (e .frame) .number)) (entries.Set b i freeEntry)) (refuse 9 0))
-  septremove-turn d b i e k live ie = rw (ie .entry) (iff-both (Turn base t l l d) _ _ _ (λ u. lost u) (λ _. refused 9 0 (omega arith) (omega arith)))
+  septremove-turn d b i e k live ie = rw (ie .entry) (choose-both (Turn base t l l d) _ _ _ (λ u. lost u) (λ _. refused 9 0 (omega arith) (omega arith)))
     where
       q : e .state ≡ view t .entry b i .state
       q = ap (λ (y : Entry). y .state) (ie .entry)
@@ -380,7 +380,7 @@ module _ (base : Hpa) (t : Tables) (l : Lists) (st : State base t l) where
 
       lost : tableEmpty (t .entries) (number (view t) (points (view t) b i)) ≡ true
           → Turn base t l l d (lose (looked t d) (view t .entry b i .frame) (stocks.Give (number (view t) (points (view t) b i))) (entries.Set b i freeEntry))
-      lost u = unfold lose given iff in rw (lose-some d _ (k .tdr) (entry-belongs d b i k (ie .spot) some))
+      lost u = unfold lose given choose in rw (lose-some d _ (k .tdr) (entry-belongs d b i k (ie .spot) some))
           (take-turn base t l st d k live b i (ie .spot) some (stocks.Give (number (view t) (points (view t) b i))) (block-given a-table ty) still-give (λ _. empty-at _ u))
 
   pub septremove-good : (d : Hpa) (gpa : Gpa) (level : ℕ) → Good base t l (call.SeptRemove d gpa level) (trees.septremovePlan base t d gpa level)
@@ -395,39 +395,39 @@ module _ (base : Hpa) (t : Tables) (l : Lists) (st : State base t l) where
 
   tdr-turn : (d : ℕ) → kind (view t) d ≡ TDR → Turn base t l (Struck d) d (pages.reclaimTdr (looked t d))
   unfolding pages.reclaimTdr
-  tdr-turn d k = iff-both (Turn base t l (Struck d) d) _ _ _
-      (λ _. iff-both (Turn base t l (Struck d) d) _ _ _
+  tdr-turn d k = choose-both (Turn base t l (Struck d) d) _ _ _
+      (λ _. choose-both (Turn base t l (Struck d) d) _ _ _
       (λ e. retire-turn base t l st d k (eqb-true _ _ e))
       (λ _. refused 9 0 (omega arith) (omega arith)))
       (λ _. refused 3 0 (omega arith) (omega arith))
 
   child-lost : (f : ℕ) (k : TDR < kind (view t) f) → life (view t) (number (view t) (owner (view t) f)) ≡ TEARDOWN → {se : StockEdit} → StockAt t f (number (view t) (owner (view t) f)) freed se → Still se
       → Turn base t l (Struck f) (owner (view t) f) (lose (looked t (owner (view t) f)) (frame f) se (entries.Keep))
-  unfolding lose given iff
+  unfolding lose given choose
   child-lost f k dead {se} sa si =
       let b : Belongs (view t) (owner (view t) f) f = record { type = k; owner = refl } in
       rw (lose-some (owner (view t) f) f (st .ok .owners f k) b) (reclaim-turn base t l st (owner (view t) f) (st .ok .owners f k) dead f b se sa si)
 
   child-turn : (f : ℕ) → TDR < kind (view t) f → Turn base t l (Struck f) (owner (view t) f) (pages.reclaimChild (t .stock) (looked t (owner (view t) f)) (frame f) (view t .frame f))
   unfolding pages.reclaimChild
-  child-turn f k = iff-both (Turn base t l (Struck f) (owner (view t) f)) _ _ _
+  child-turn f k = choose-both (Turn base t l (Struck f) (owner (view t) f)) _ _ _
       (λ e.
       let dead : life (view t) (number (view t) (owner (view t) f)) ≡ TEARDOWN = eqb-true _ _ e in
-      iff-both (Turn base t l (Struck f) (owner (view t) f)) _ _ _
+      choose-both (Turn base t l (Struck f) (owner (view t) f)) _ _ _
       (λ e′.
       let z : kind (view t) f ≡ EPT = eqb-true _ _ e′ in
-      iff-both (Turn base t l (Struck f) (owner (view t) f)) _ _ _
+      choose-both (Turn base t l (Struck f) (owner (view t) f)) _ _ _
       (λ _. child-lost f k dead (block-given a-table z) still-give)
       (λ u. absurd (true≢false (sym (st .ok .used EPT f a-table z) ∙ u))))
       (λ e′. child-lost f k dead (stock-stays (λ j nb z. absurd (not-child nb (λ q. omega (arith, k)) (eqb-false _ _ e′) z))) still-keep))
       (λ _. refused 3 0 (omega arith) (omega arith))
 
   pub reclaim-good : (f : Hpa) → Good base t l (call.Reclaim f) (pages.reclaimPlan base t f)
-  unfolding pages.reclaimPlan pages.reclaimAt subject left roleOf given iff onPlace onLookup
+  unfolding pages.reclaimPlan pages.reclaimAt subject left roleOf given choose onPlace onLookup
   reclaim-good f = on-frame (call.Reclaim f) f 0 _ (λ n q h.
-      iff-both (Good base t l (call.Reclaim f)) _ _ _
+      choose-both (Good base t l (call.Reclaim f)) _ _ _
       (λ _. answers (mild-no 2 0 (omega arith) (omega arith)))
-      (λ e. iff-both (Good base t l (call.Reclaim f)) _ _ _
+      (λ e. choose-both (Good base t l (call.Reclaim f)) _ _ _
       (λ e′.
       let k : kind (view t) (n .0) ≡ TDR = eqb-true _ _ e′ in
       good {l′ = Struck (n .0)} n (rw (q, e′) refl) (rw q refl) (rw (domain-is base t l st n k) (tdr-turn (n .0) k)))
@@ -445,14 +445,14 @@ module _ (base : Hpa) (t : Tables) (l : Lists) (st : State base t l) where
   pub readpage-good : (f : Hpa) → Good base t l (call.ReadPage f) (pages.readpagePlan base t f)
   unfolding pages.readpagePlan left roleOf given
   readpage-good f = on-frame (call.ReadPage f) f 0 _ (λ n q h.
-      iff-both (Good base t l (call.ReadPage f)) _ _ _ (λ _. reading (reads-page _ _) refl) (λ _. reading (reads-page _ _) refl))
+      choose-both (Good base t l (call.ReadPage f)) _ _ _ (λ _. reading (reads-page _ _) refl) (λ _. reading (reads-page _ _) refl))
 
   pub readentry-good : (d : Hpa) (gpa : Gpa) (level : ℕ) → Good base t l (call.ReadEntry d gpa level) (trees.readentryPlan base t d gpa level)
   unfolding trees.readentryPlan trees.readentryAt subject left roleOf given
   readentry-good d gpa level = on-live (call.ReadEntry d gpa level) d gpa level 0 _ (λ n q k live. good n q refl (
       on-walk (Turn base t l l (n .0)) (walk-good base t l st (n .0) k gpa level topLevel _ (λ b p. p)) _ _ _
       (λ j i. says (mild-stop 6 j i (omega arith) (omega arith))) (λ z. absurd z)
-      (λ b i sp. iff-both (Turn base t l l (n .0)) _ _ _ (λ _. reads (reads-entry _ _ _) refl) (λ _. reads (reads-entry _ _ _) refl))))
+      (λ b i sp. choose-both (Turn base t l l (n .0)) _ _ _ (λ _. reads (reads-entry _ _ _) refl) (λ _. reads (reads-entry _ _ _) refl))))
 
   -- every call
   pub plan-good : (c : Call) → Good base t l c (planOf base t c)

@@ -9,7 +9,7 @@ use native.Mathlib.Omega.{arith}
 use native.Mathlib.Decide.{ℕ-discrete}
 use lib.Dec.{eqb, ltb}
 use borrow.Author.Tests.{eq-eqb, ne-eqb}
-use Rattle.rules.specs.Rule.{iff}
+use Rattle.rules.specs.Rule.{choose}
 use Rattle.ledger.specs.Codes.{NDA, TDR, EPT, TEARDOWN}
 use Rattle.keeps.specs.Views.{View, kind, owner, number, life, children}
 use Rattle.ownership.specs.Owned.{Found, found, weight, times, same, one, both, Extent, rootOf, tree, controls, treeOf, finds, mine, Owns, Keyed, Block, root, below}
@@ -21,30 +21,30 @@ use Rattle.ownership.proofs.Domain.{Mine, Mine?, is, not, mine?, home, 
 
 -- What domain d has: what is found while it holds its key, then what is left; nothing where there is no such domain. And its child count.
 pub held : Extent → View → Lists → Lists
-held z s l d = iff (eqb (kind s d) TDR) (iff (eqb (life s (number s d)) TEARDOWN) (l d) (finds z s d)) []
+held z s l d = choose (eqb (kind s d) TDR) (choose (eqb (life s (number s d)) TEARDOWN) (l d) (finds z s d)) []
 
 pub childs : View → ℕ → ℕ
-childs s d = iff (eqb (kind s d) TDR) (children s (number s d)) 0
+childs s d = choose (eqb (kind s d) TDR) (children s (number s d)) 0
 
 module _ (z : Extent) (s : View) (l : Lists) (d : ℕ) where
   pub held-key : Keyed s d → held z s l d ≡ finds z s d
-  unfolding held iff
+  unfolding held choose
   held-key k = rw (eq-eqb (kind s d) TDR (k .tdr), ne-eqb (life s (number s d)) TEARDOWN (k .held)) refl
 
   pub held-freed : kind s d ≡ TDR → life s (number s d) ≡ TEARDOWN → held z s l d ≡ l d
-  unfolding held iff
+  unfolding held choose
   held-freed k f = rw (eq-eqb (kind s d) TDR k, eq-eqb (life s (number s d)) TEARDOWN f) refl
 
   pub held-none : (kind s d ≡ TDR → ⊥) → held z s l d ≡ []
-  unfolding held iff
+  unfolding held choose
   held-none k = rw (ne-eqb (kind s d) TDR k) refl
 
 pub childs-tdr : (s : View) (d : ℕ) → kind s d ≡ TDR → childs s d ≡ children s (number s d)
-unfolding childs iff
+unfolding childs choose
 childs-tdr s d k = rw (eq-eqb (kind s d) TDR k) refl
 
 pub childs-none : (s : View) (d : ℕ) → (kind s d ≡ TDR → ⊥) → childs s d ≡ 0
-unfolding childs iff
+unfolding childs choose
 childs-none s d k = rw (ne-eqb (kind s d) TDR k) refl
 
 pub record Sound (z : Extent) (s : View) (l : Lists) : Type 0 where

@@ -5,8 +5,8 @@ use Prim.Native.Nat.{ℕ, zero, suc, _-_, _/_, _<_, _≤_, _+_}
 use native.Mathlib.Omega.{arith}
 use lib.ListN.{length}
 use borrow.Author.Tests.{eqb-true, eq-eqb}
-use Rattle.rules.specs.Rule.{iff, given}
-use Rattle.rules.proofs.Steps.{iff-both}
+use Rattle.rules.specs.Rule.{choose, given}
+use Rattle.rules.proofs.Steps.{choose-both}
 use Rattle.levels.specs.Level.{levels, topLevel, indexAt}
 use Rattle.units.specs.Limits.{tableEntries}
 use Rattle.units.specs.declared.address.Hpa.{Hpa}
@@ -79,17 +79,17 @@ module _ (base : Hpa) (t : Tables) (l : Lists) (st : State base t l) where
 
   pub domain-for : (n : Pfn) → LookupSays (IsDomain t (n .0)) Mild (domainFor t n)
   unfolding domainFor given
-  domain-for n = iff-both (LookupSays (IsDomain t (n .0)) Mild) _ _ _
+  domain-for n = choose-both (LookupSays (IsDomain t (n .0)) Mild) _ _ _
       (λ e.
       let k : kind (view t) (n .0) ≡ TDR = eqb-true _ _ e in
       let b = tdr-bit (n .0) k in
-      iff-both (LookupSays (IsDomain t (n .0)) Mild) _ _ _
+      choose-both (LookupSays (IsDomain t (n .0)) Mild) _ _ _
       (λ _. is (record { kind = k; is = rw (b, tdr-root (n .0) k) refl }))
       (λ u. absurd (true≢false (sym (tdr-used (n .0) k) ∙ rw b at u))))
       (λ _. not (mild-no 2 0 (omega arith) (omega arith)))
 
   pub domain-is : (n : Pfn) → kind (view t) (n .0) ≡ TDR → domainFor t n ≡ lookup.Is (looked t (n .0))
-  unfolding domainFor given iff
+  unfolding domainFor given choose
   domain-is n k = rw (eq-eqb (kind (view t) (n .0)) TDR k, tdr-bit (n .0) k, tdr-root (n .0) k, tdr-used (n .0) k) refl
 
   -- an entry that isn't FREE, on the way of d's tree, names a frame of d's with its type
@@ -102,7 +102,7 @@ module _ (base : Hpa) (t : Tables) (l : Lists) (st : State base t l) where
       let m = entry-own d b i kd sp ne in
       both-of _ _ (eq-eqb _ _ (m .kind))
       (both-of _ _ (eq-eqb _ _ (m .owner))
-      (iff-both (λ (x : Bool). x ≡ true) _ _ _ (λ e. st .ok .used EPT (points (view t) b i) a-table (eqb-true _ _ e)) (λ _. refl)))
+      (choose-both (λ (x : Bool). x ≡ true) _ _ _ (λ e. st .ok .used EPT (points (view t) b i) a-table (eqb-true _ _ e)) (λ _. refl)))
 
   -- the walk from a block on d's way ends on d's way
   module _ (d : ℕ) (kd : Keyed (view t) d) (gpa : Gpa) (want : ℕ) where
@@ -114,13 +114,13 @@ module _ (base : Hpa) (t : Tables) (l : Lists) (st : State base t l) where
     walk-good (suc level) block f =
         let i = indexAt gpa (suc level) in
         let w : i < tableEntries = omega arith in
-        iff-both (WalkSays (IsSpot t d) ⊥) _ _ _
+        choose-both (WalkSays (IsSpot t d) ⊥) _ _ _
         (λ _. at (record { path = f block here; place = w }))
-        (λ _. iff-both (WalkSays (IsSpot t d) ⊥) _ _ _
+        (λ _. choose-both (WalkSays (IsSpot t d) ⊥) _ _ _
         (λ e.
         let q : view t .entry block i .state ≡ NL-MAPPED = eqb-true _ _ e in
         let sp : IsSpot t d block i = record { path = f block here; place = w } in
-        iff-both (WalkSays (IsSpot t d) ⊥) _ _ _
+        choose-both (WalkSays (IsSpot t d) ⊥) _ _ _
         (λ _. walk-good level (number (view t) (points (view t) block i)) (λ b p. f b (down i w (table-shape _ q) p)))
         (λ u. absurd (true≢false (sym (own-frame d block i kd sp (λ z. omega arith)) ∙ u))))
         (λ _. stopped))
@@ -130,7 +130,7 @@ module _ (base : Hpa) (t : Tables) (l : Lists) (st : State base t l) where
   entry-for d kd gpa level least most =
       on-walk (ReachSays (IsEntry t d least most) Mild) (walk-good d kd gpa level topLevel (rootBlock (extent t) (view t) d) (λ b p. p)) _ _ _
       (λ j k. missed (mild-stop 6 j k (omega arith) (omega arith))) (λ z. absurd z)
-      (λ b i sp. iff-both (ReachSays (IsEntry t d least most) Mild) _ _ _
+      (λ b i sp. choose-both (ReachSays (IsEntry t d least most) Mild) _ _ _
       (λ e. reached (record { spot = sp; entry = refl; state = between-true _ _ _ e }))
       (λ _. missed (mild-stop 7 level _ (omega arith) (omega arith))))
 

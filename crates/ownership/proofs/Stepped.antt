@@ -7,8 +7,8 @@ use native.Mathlib.Omega.{arith}
 use native.Mathlib.Decide.{ℕ-discrete}
 use lib.Dec.{eqb}
 use borrow.Author.Tests.{ne-eqb}
-use Rattle.rules.specs.Rule.{iff}
-use Rattle.rules.proofs.Steps.{iff-both}
+use Rattle.rules.specs.Rule.{choose}
+use Rattle.rules.proofs.Steps.{choose-both}
 use Rattle.units.specs.Limits.{controlPages}
 use Rattle.units.specs.declared.address.Pfn.{Pfn}
 use Rattle.ledger.specs.Codes.{NDA, TDR, EPT, TEARDOWN}
@@ -68,7 +68,7 @@ module _ (t : Tables) (F : ℕ) where
   frame-other (frame-becomes {v}) f ne = stored-other (view t .frame) F v f ne
 
 still-used : (g : ℕ → Bool) (n b : ℕ) → g b ≡ true → stored g n true b ≡ true
-still-used g n b u = iff-both (λ (x : Bool). x ≡ true) (eqb b n) true (g b) (λ _. refl) (λ _. u)
+still-used g n b u = choose-both (λ (x : Bool). x ≡ true) (eqb b n) true (g b) (λ _. refl) (λ _. u)
 
 module _ (t : Tables) (F r : ℕ) (fr : Frame) where
   record-new : {se : StockEdit} {de : DomainEdit} {v : Domain} → RecordAt t r se de v → newDomain de (wipedDomain se (view t .domain)) r ≡ v
@@ -90,7 +90,7 @@ module _ (t : Tables) (F r : ℕ) (fr : Frame) where
   record-other {se} sa (record-becomes {v}) k ne = stored-other (wipedDomain se (view t .domain)) r v k ne ∙ wiped-other sa k ne
 
   pages-other : (k : ℕ) → (k ≡ r → ⊥) → (i : ℕ) {se : StockEdit} → StockAt t F r fr se → wipedPage se (view t .control) k i ≡ view t .control k i
-  unfolding wipedPage iff
+  unfolding wipedPage choose
   pages-other k ne i (stock-stays _) = refl
   pages-other k ne i (table-taken _ _) = refl
   pages-other k ne i (record-taken _ _ _) = rw (ne-eqb k r ne) refl

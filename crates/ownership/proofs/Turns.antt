@@ -7,7 +7,7 @@ use Prim.Native.Nat.{ℕ, _+_, _-_, _<_, _≤_}
 use native.Mathlib.Omega.{arith}
 use native.Mathlib.Decide.{ℕ-discrete}
 use borrow.Author.Tests.{eq-eqb, ne-eqb}
-use Rattle.rules.specs.Rule.{iff}
+use Rattle.rules.specs.Rule.{choose}
 use Rattle.units.specs.Limits.{tableEntries, controlPages}
 use Rattle.units.specs.declared.address.Hpa.{Hpa}
 use Rattle.ledger.specs.Codes.{NDA, TDR, EPT, FREE, ASSIGNED, UNINITIALIZED, INITIALIZED, TEARDOWN}
@@ -225,7 +225,7 @@ module _ (t : Tables) (fr : Frame) where
   stocked-steady (a-new k h u) = steady-table
 
   other-entry : {se : StockEdit} → Stocked t fr se → (b i : ℕ) → (fr .kind ≡ EPT → b ≡ fr .number → ⊥) → wipedEntry se (view t .entry) b i ≡ view t .entry b i
-  unfolding wipedEntry iff
+  unfolding wipedEntry choose
   other-entry (no-table k) b i ne = refl
   other-entry (a-new k h u) b i ne = rw (ne-eqb b (fr .number) (ne k)) refl
 
@@ -236,7 +236,7 @@ module _ (t : Tables) (fr : Frame) where
     used : newUse se (view t .used) (fr .number) ≡ true
 
   its-table : {se : StockEdit} → Stocked t fr se → fr .kind ≡ EPT → Table se
-  unfolding wipedEntry newUse iff
+  unfolding wipedEntry newUse choose
   its-table (no-table k) e = absurd (k e)
   its-table (a-new k h u) e = record { low = h; unused = u; wiped = λ i. rw (eq-eqb (fr .number) (fr .number) refl) refl; used = stored-same (view t .used) (fr .number) true }
 
@@ -426,7 +426,7 @@ module _ (base : Hpa) (t : Tables) (l : Lists) (st : State base t l) (F : ℕ) (
   new-edit = edit (frames.Set (frame F) (newTdr r)) (pages.Keep) (domains.Set r (domain key′ ASSIGNED UNINITIALIZED 0 0 1 0)) (stocks.Record (extent t .tables + r) (extent t .tables + r) r) (entries.Keep)
 
   pub new-turn : Turn base t l l F (Do (edit (frames.Set (frame F) (newTdr r)) (pages.Keep) (domains.Set r (domain key′ ASSIGNED UNINITIALIZED 0 0 1 0)) (stocks.Record (extent t .tables + r) (extent t .tables + r) r) (entries.Keep)))
-  unfolding newEntry wipedEntry newUse iff
+  unfolding newEntry wipedEntry newUse choose
   new-turn = does (λ a.
       let s = view t in
       let s′ = view (applied new-edit t) in

@@ -5,7 +5,7 @@ use mathlib.Core.Bool.{Bool, true, false}
 use mathlib.Core.List.{List, [], _∷_, _++_}
 use lib.Dec.{eqb, ltb}
 use lib.ListN.{length}
-use Rattle.rules.specs.Rule.{iff}
+use Rattle.rules.specs.Rule.{choose}
 use Rattle.ledger.specs.Codes.{TDR, TDCX, EPT, REG, TEARDOWN, FREE, NL-MAPPED, NL-BLOCKED}
 use Rattle.keeps.specs.Views.{View, kind, owner, number, life, listed, children}
 
@@ -35,9 +35,9 @@ pub data Shape : Type 0 where
 
 unfoldable pub shapeOf : ℕ → Shape
 shapeOf state =
-    iff (eqb state FREE) nothing (
-    iff (eqb state NL-MAPPED) table (
-    iff (eqb state NL-BLOCKED) table
+    choose (eqb state FREE) nothing (
+    choose (eqb state NL-MAPPED) table (
+    choose (eqb state NL-BLOCKED) table
     page))
 
 abbrev pub shape : View → ℕ → ℕ → Shape
@@ -125,7 +125,7 @@ pub record Keyed (s : View) (d : ℕ) : Type 0 where
 -- a list "less those reclaimed": without frame f
 unfoldable pub without : ℕ → List Found → List Found
 without f [] = []
-without f (x ∷ l) = iff (eqb (x .frame) f) (without f l) (x ∷ without f l)
+without f (x ∷ l) = choose (eqb (x .frame) f) (without f l) (x ∷ without f l)
 
 -- ---- "leaves every other domain's record, tree and frames alone"
 

@@ -6,7 +6,7 @@ use mathlib.Core.List.{List, []}
 use lib.Dec.{eqb}
 use lib.Ieee.{Float}
 use lib.ListN.{length}
-use Rattle.rules.specs.Rule.{iff}
+use Rattle.rules.specs.Rule.{choose}
 use Rattle.levels.specs.Level.{levels}
 use Rattle.units.specs.Limits.{tableEntries}
 use Rattle.units.specs.declared.address.Hpa.{Hpa}
@@ -66,7 +66,7 @@ unfoldable pub subject : Hpa → Tables → Role → Place
 subject base t (on d) = placeIn base t d
 subject base t (frees d) = placeIn base t d
 subject base t (reclaims f) = onPlace (placeIn base t f) Outside λ n.
-    At (frame (iff (eqb (kind (view t) (n .0)) TDR) (n .0) (owner (view t) (n .0))))
+    At (frame (choose (eqb (kind (view t) (n .0)) TDR) (n .0) (owner (view t) (n .0))))
 
 -- "those it had at that moment less those reclaimed since": a list for each domain. An accepted keyfree notes what the domain has, and an
 -- accepted reclaim strikes its frame out
@@ -74,7 +74,7 @@ abbrev pub Lists : Type 0
 Lists = ℕ → List Found
 
 abbrev pub noted : Lists → ℕ → List Found → Lists
-noted l d now e = iff (eqb e d) now (l e)
+noted l d now e = choose (eqb e d) now (l e)
 
 unfoldable pub left : Hpa → Tables → Role → Lists → Lists
 left base t (on d) l = l
@@ -88,7 +88,7 @@ Accepted o = numberOf (o .answer) ≡ 0
 
 -- a refused call leaves the lists as they are
 abbrev pub leftBy : Hpa → Tables → Call → Outcome → Lists → Lists
-leftBy base t c o l = iff (eqb (numberOf (o .answer)) 0) (left base t (roleOf c) l) l
+leftBy base t c o l = choose (eqb (numberOf (o .answer)) 0) (left base t (roleOf c) l) l
 
 -- "A fresh start is what an accepted reset leaves; the calls after it lend the same sizes and base, and the tables as the call before left
 -- them": any calls, accepted or refused, and any settings of the marks, each with any gauge

@@ -2,7 +2,7 @@
 use Prim.Native.Nat.{ℕ}
 use mathlib.Core.List.{List}
 use lib.Dec.{eqb, ltb}
-use Rattle.rules.specs.Rule.{iff, need, given}
+use Rattle.rules.specs.Rule.{choose, need, given}
 use Rattle.units.specs.Address.{hpaOf}
 use Rattle.units.specs.declared.address.Hpa.{Hpa}
 use Rattle.units.specs.declared.address.Pfn.{Pfn}
@@ -35,16 +35,16 @@ reclaimTdr x =
 unfoldable pub reclaimChild : List ℕ → Found → Pfn → Frame → Plan
 reclaimChild st x n f =
     need (eqb (x .dom .life) TEARDOWN) (refuse 3 0) (
-    need (eqb (f .kind) EPT) (lose x n stock.Keep entries.Keep) (
-    need (inUse st (f .number)) (refuse 14 0)
-    (lose x n (stock.Give (f .number)) entries.Keep)))
+    choose (eqb (f .kind) EPT)
+    (need (inUse st (f .number)) (refuse 14 0) (lose x n (stock.Give (f .number)) entries.Keep))
+    (lose x n stock.Keep entries.Keep))
 
 -- reclaim: owner (or F itself, a TDR) in teardown; a TDR has child count 0; F NDA; its table or record given back
 unfoldable pub reclaimAt : Tables → Pfn → Plan
 reclaimAt t n =
     given (frameAt (t .frames) n) λ f.
-    iff (eqb (f .kind) NDA) (refuse 2 0) (
-    iff (eqb (f .kind) TDR)
+    choose (eqb (f .kind) NDA) (refuse 2 0) (
+    choose (eqb (f .kind) TDR)
     (onLookup (domainFor t n) (λ a. refuse 14 0) reclaimTdr)
     (onLookup (domainFor t (f .owner)) (λ a. refuse 14 0) λ x. reclaimChild (t .stock) x n f))
 
@@ -58,6 +58,6 @@ unfoldable pub readpagePlan : Hpa → Tables → Hpa → Plan
 readpagePlan base t h =
     onFrame base t h 0 λ n.
     given (frameAt (t .frames) n) λ f.
-    iff (ltb (f .kind) TDCX) (Say (answer.Page (f .kind) (record { 0 = 0 }))) (
+    choose (ltb (f .kind) TDCX) (Say (answer.Page (f .kind) (record { 0 = 0 }))) (
     given (hpaOf base (f .owner)) λ owner.
     Say (answer.Page (f .kind) owner))

@@ -2,7 +2,7 @@
 use Prim.Native.Nat.{ℕ, _+_, _-_}
 use lib.ListN.{length}
 use lib.Dec.{eqb, ltb}
-use Rattle.rules.specs.Rule.{iff, need, given}
+use Rattle.rules.specs.Rule.{choose, need, given}
 use Rattle.units.specs.declared.address.Hpa.{Hpa}
 use Rattle.units.specs.declared.address.Gpa.{Gpa}
 use Rattle.units.specs.declared.address.Pfn.{Pfn}
@@ -43,7 +43,7 @@ gain frames x n f p listed s e =
 -- frame n becomes NDA
 unfoldable pub lose : Found → Pfn → StockEdit → EntryEdit → Plan
 lose x n s e =
-    iff (eqb (x .dom .children) 0) (refuse 14 0) (
+    choose (eqb (x .dom .children) 0) (refuse 14 0) (
     given (withCounts (x .dom) (x .dom .listed) (x .dom .children - 1)) λ d.
     Do (edit (frame.Set n freed) page.Keep (domains.Set (x .rec) d) s e))
 

@@ -3,7 +3,7 @@ use Prim.Native.Nat.{ℕ}
 use mathlib.Core.Bool.{Bool}
 use mathlib.Core.List.{List}
 use lib.Dec.{eqb, ltb}
-use Rattle.rules.specs.Rule.{iff, need, given}
+use Rattle.rules.specs.Rule.{choose, need, given}
 use Rattle.rules.specs.Upto.{allFrom}
 use Rattle.units.specs.Limits.{between, tableEntries}
 use Rattle.units.specs.declared.address.Gpa.{Gpa}
@@ -37,10 +37,10 @@ onReach (At b i e) z k = k b i e
 
 -- block: "entry 1, 2 or 3" to "entry 4, 5 or 6"; unblock: back
 unfoldable pub blockedState : ℕ → ℕ
-blockedState s = iff (eqb s NL-MAPPED) NL-BLOCKED (iff (eqb s MAPPED) BLOCKED PENDING-BLOCKED)
+blockedState s = choose (eqb s NL-MAPPED) NL-BLOCKED (choose (eqb s MAPPED) BLOCKED PENDING-BLOCKED)
 
 unfoldable pub unblockedState : ℕ → ℕ
-unblockedState s = iff (eqb s NL-BLOCKED) NL-MAPPED (iff (eqb s BLOCKED) MAPPED PENDING)
+unblockedState s = choose (eqb s NL-BLOCKED) NL-MAPPED (choose (eqb s BLOCKED) MAPPED PENDING)
 
 -- "Tracked" means that the frame's epoch is below the domain's.
 unfoldable pub isTracked : List ℕ → Pfn → Found → Bool

@@ -1,12 +1,12 @@
 -- Answer 13: "any stored number or code outside its range (a frame's epoch from 0, a child count up to the frames)", and, of
 -- "What is written down", "A place without use [..] holds 0; another value there is out of range", "answer 13 doesn't look into
 -- unused ones".
-use Prim.Native.Nat.{ℕ, _+_, _-_, _/_}
-use mathlib.Core.Bool.{Bool, true, false}
+use Prim.Native.Nat.{ℕ, _+_, _-_}
+use mathlib.Core.Bool.{Bool, false}
 use mathlib.Core.List.{List}
 use lib.ListN.{length}
 use lib.Dec.{eqb, ltb, leb}
-use Rattle.rules.specs.Rule.{iff, need, given}
+use Rattle.rules.specs.Rule.{choose, implies, need, given}
 use Rattle.rules.specs.Upto.{allFrom}
 use Rattle.units.specs.Limits.{tableEntries, controlPages, epochMost, keyOk, epochOk}
 use Rattle.units.specs.declared.address.Hpa.{Hpa}
@@ -26,11 +26,11 @@ below o n e s = record { owner = o; number = n; epoch = e; size = s }
 
 unfoldable pub frameLimits : Sizes → ℕ → FrameLimits
 frameLimits s kind =
-    iff (eqb kind NDA) (below 1 1 1 1) (
-    iff (eqb kind TDR) (below 1 (s .records) 1 1) (
-    iff (eqb kind TDCX) (below (s .frames) 1 1 1) (
-    iff (eqb kind EPT) (below (s .frames) (s .tables) (epochMost + 1) 1) (
-    iff (eqb kind REG) (below (s .frames) 1 (epochMost + 1) 1)
+    choose (eqb kind NDA) (below 1 1 1 1) (
+    choose (eqb kind TDR) (below 1 (s .records) 1 1) (
+    choose (eqb kind TDCX) (below (s .frames) 1 1 1) (
+    choose (eqb kind EPT) (below (s .frames) (s .tables) (epochMost + 1) 1) (
+    choose (eqb kind REG) (below (s .frames) 1 (epochMost + 1) 1)
     (below 0 0 0 0)))))
 
 unfoldable pub frameOk : Sizes → List ℕ → ℕ → Bool
@@ -50,7 +50,7 @@ unfoldable pub entryOk : ℕ → List ℕ → ℕ → ℕ → Bool
 entryOk frames es b i =
     given (entryAt es b i) λ e.
     need (leb (e .state) PENDING-BLOCKED) false (
-    iff (eqb (e .state) FREE) (eqb (e .frame .0) 0) (ltb (e .frame .0) frames))
+    choose (eqb (e .state) FREE) (eqb (e .frame .0) 0) (ltb (e .frame .0) frames))
 
 unfoldable pub entriesOk : ℕ → List ℕ → ℕ → Bool
 entriesOk frames es b = allFrom (entryOk frames es b) 0 tableEntries
@@ -59,7 +59,7 @@ entriesOk frames es b = allFrom (entryOk frames es b) 0 tableEntries
 unfoldable pub pageOk : ℕ → ℕ → List ℕ → ℕ → ℕ → Bool
 pageOk frames listed ds r i =
     given (pageAt ds r i) λ n.
-    iff (ltb i listed) (ltb (n .0) frames) (eqb (n .0) 0)
+    choose (ltb i listed) (ltb (n .0) frames) (eqb (n .0) 0)
 
 unfoldable pub pagesOk : ℕ → ℕ → List ℕ → ℕ → Bool
 pagesOk frames listed ds r = allFrom (pageOk frames listed ds r) 0 controlPages
@@ -83,7 +83,7 @@ recordOk frames ds r =
 -- "answer 13 doesn't look into unused ones": the entries of each table in use ..
 unfoldable pub tableOk : ℕ → List ℕ → List ℕ → ℕ → Bool
 tableOk frames st es b =
-    need (inUse st b) true
+    implies (inUse st b)
     (entriesOk frames es b)
 
 unfoldable pub allTablesOk : Sizes → List ℕ → List ℕ → Bool
@@ -93,7 +93,7 @@ allTablesOk s st es = allFrom (tableOk (s .frames) st es) 0 (s .tables)
 unfoldable pub rootedOk : ℕ → List ℕ → List ℕ → List ℕ → ℕ → Bool
 rootedOk frames ds st es r =
     given (bitOf (length ds) (length es) r) λ bit.
-    need (inUse st bit) true (
+    implies (inUse st bit) (
     need (recordOk frames ds r) false (
     given (rootOf (length ds) (length es) r) λ root.
     entriesOk frames es root))

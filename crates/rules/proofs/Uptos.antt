@@ -6,12 +6,12 @@ use Prim.Native.Nat.{ℕ, zero, suc, _+_, _-_, _<_, _≤_}
 use native.Mathlib.Nat.{eq-or-lt-of-le, sub-zero}
 use native.Mathlib.Omega.{arith}
 use borrow.Author.Tests.{not-true, not-false}
-use Rattle.rules.specs.Rule.{iff}
+use Rattle.rules.specs.Rule.{choose}
 use Rattle.rules.specs.Upto.{allFrom, anyFrom, sumFrom}
-use Rattle.rules.proofs.Steps.{iff-both, both-left, both-right}
+use Rattle.rules.proofs.Steps.{choose-both, both-left, both-right}
 
 module _ (p : ℕ → Bool) where
-  pub all-step : (n i : ℕ) → i < n → allFrom p i (n - i) ≡ iff (p i) (allFrom p (i + 1) (n - (i + 1))) false
+  pub all-step : (n i : ℕ) → i < n → allFrom p i (n - i) ≡ choose (p i) (allFrom p (i + 1) (n - (i + 1))) false
   unfolding allFrom
   all-step n i h = let e : n - i ≡ suc (n - (i + 1)) = omega arith in rw e
 
@@ -28,11 +28,11 @@ module _ (p : ℕ → Bool) where
 
   -- a turn asks r, the test of i: the loop leaves with false, goes on, or ends
   pub all-stop : {n i : ℕ} {r t : Bool} → t ≡ allFrom p i (n - i) → i < n → r ≡ p i → not r ≡ true → false ≡ t
-  unfolding iff
+  unfolding choose
   all-stop {n} {i} {r} {t} e h a b = rw (e, all-step n i h, ← a, not-true r b)
 
   pub all-next : {n i : ℕ} {r t : Bool} → t ≡ allFrom p i (n - i) → i < n → r ≡ p i → not r ≡ false → t ≡ allFrom p (i + 1) (n - (i + 1))
-  unfolding iff
+  unfolding choose
   all-next {n} {i} {r} {t} e h a b = rw (e, all-step n i h, ← a, not-false r b)
 
   pub all-done : {n i : ℕ} {t : Bool} → t ≡ allFrom p i (n - i) → n ≤ i → true ≡ t
@@ -60,12 +60,12 @@ module _ (g : ℕ → ℕ) where
 
 pub ruleset alls = (all-stop, all-next, all-done)
 
-some-left : (t r : Bool) → t ≡ true → iff t true r ≡ true
-unfolding iff
+some-left : (t r : Bool) → t ≡ true → choose t true r ≡ true
+unfolding choose
 some-left t r e = rw e
 
-some-right : (t r : Bool) → r ≡ true → iff t true r ≡ true
-unfolding iff
+some-right : (t r : Bool) → r ≡ true → choose t true r ≡ true
+unfolding choose
 some-right true r e = refl
 some-right false r e = e
 
@@ -81,7 +81,7 @@ module _ (p : ℕ → Bool) where
   from-any : (k i : ℕ) → anyFrom p i k ≡ true → (j : ℕ) × (j < i + k) × (p j ≡ true)
   unfolding anyFrom
   from-any zero i e = absurd (let z : _≡_ {A = ℕ} 0 1 = cc in omega arith)
-  from-any (suc k) i e = iff-both (λ (t : Bool). t ≡ true → (j : ℕ) × (j < i + suc k) × (p j ≡ true)) (p i) true (anyFrom p (i + 1) k)
+  from-any (suc k) i e = choose-both (λ (t : Bool). t ≡ true → (j : ℕ) × (j < i + suc k) × (p j ≡ true)) (p i) true (anyFrom p (i + 1) k)
       (λ h r. (i, omega arith, h))
       (λ h r. let w = from-any k (i + 1) r in (w .0, omega arith, w .2))
       e

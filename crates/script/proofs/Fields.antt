@@ -5,7 +5,7 @@ use Prim.Native.Nat.{ℕ, zero, suc, _+_, _-_, _<_, _≤_}
 use native.Mathlib.Omega.{arith}
 use lib.ListN.{length, drop, drop-of-length-le}
 use lib.Seq.{drop-drop}
-use Rattle.rules.specs.Rule.{iff}
+use Rattle.rules.specs.Rule.{choose}
 use Rattle.script.specs.Text.{tab, upto}
 use Rattle.numbers.specs.Number.{numberOf}
 use Rattle.script.specs.Lines.{field, onNumber, fieldAt, numberIn}
@@ -39,7 +39,7 @@ module _ {line : List ℕ} {index at left : ℕ} (s : Skipping line index at lef
   skipping-more h e = record { same = past h e }
 
   pub skipping-past : {to : ℕ} → 0 < left → to ≡ at + length (upto tab (drop at line)) → length line ≤ to → 0 ≡ numberIn line index
-  unfolding numberIn numberOf iff onNumber
+  unfolding numberIn numberOf choose onNumber
   skipping-past {to} h e l =
       let q : length line ≤ to + 1 = omega arith in
       rw (past h e, drop-of-length-le line q, no-field)

@@ -10,8 +10,8 @@ use borrow.Author.Tests.{eq-eqb, ne-eqb}
 use lib.Dec.{eqb}
 use lib.ListN.{length, getD, drop, drop-of-length-le, length-drop}
 use lib.Seq.{drop-drop}
-use Rattle.rules.specs.Rule.{iff}
-use Rattle.rules.proofs.Steps.{iff-both}
+use Rattle.rules.specs.Rule.{choose}
+use Rattle.rules.proofs.Steps.{choose-both}
 use Rattle.script.specs.Text.{lf, tab}
 use Rattle.numbers.specs.Number.{numberOf}
 use Rattle.script.specs.Lines.{place, field, onNumber, starts, takenBy, onTaken, fits}
@@ -32,15 +32,15 @@ unfolding onNumber Within
 number-within l No = tt
 number-within l (Is n) = upto-within tab l
 
-start-within : (b : ℕ) (l : List ℕ) → Within l (iff (starts b l) (Bytes 1) Nothing)
-unfolding starts iff Within
+start-within : (b : ℕ) (l : List ℕ) → Within l (choose (starts b l) (Bytes 1) Nothing)
+unfolding starts choose Within
 start-within b [] = tt
-start-within b (c ∷ l) = iff-both (Within (c ∷ l)) (eqb c b) (Bytes 1) Nothing (λ _. omega arith) (λ _. tt)
+start-within b (c ∷ l) = choose-both (Within (c ∷ l)) (eqb c b) (Bytes 1) Nothing (λ _. omega arith) (λ _. tt)
 
 taken-within : (b : ℕ) (l : List ℕ) → Within l (takenBy b l)
 unfolding takenBy
 taken-within b l =
-    iff-both (Within l) (eqb b place) _ _ (λ _. number-within l (numberOf (field l))) (λ _. start-within b l)
+    choose-both (Within l) (eqb b place) _ _ (λ _. number-within l (numberOf (field l))) (λ _. start-within b l)
 
 none-left : (l : List ℕ) (at : ℕ) → at ≤ length l → eqb at (length l) ≡ eqb (length (drop at l)) 0
 none-left l at h = ⊎-elim
@@ -58,16 +58,16 @@ fitting-none table line from = record { within = omega arith; left = refl }
 
 module _ {table line : List ℕ} {from at i : ℕ} (f : Fitting table line from at i) where
   pub fitting-end : i < length table → getD table i 0 ≡ lf → eqb at (length line) ≡ fits (drop from table) line
-  unfolding fits iff
+  unfolding fits choose
   fitting-end h q = rw (f .left, next table i h, eq-eqb _ _ q) (none-left line at (f .within))
 
   module _ {r : Taken} (h : i < length table) (q : getD table i 0 ≡ lf → ⊥) (t : r ≡ takenBy (getD table i 0) (drop at line)) where
     pub fitting-stop : r ≡ Nothing → false ≡ fits (drop from table) line
-    unfolding fits iff onTaken
+    unfolding fits choose onTaken
     fitting-stop n = rw (f .left, next table i h, ne-eqb _ _ q, ← t, n)
 
     pub fitting-more : {n : ℕ} → r ≡ Bytes n → Fitting table line from (at + n) (i + 1)
-    unfolding fits iff onTaken Within
+    unfolding fits choose onTaken Within
     fitting-more {n} e =
         let w : n ≤ length (drop at line) = rw (← t, e) at (taken-within (getD table i 0) (drop at line)) in
         record {

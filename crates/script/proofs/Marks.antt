@@ -7,8 +7,8 @@ use native.Mathlib.Nat.{add-zero}
 use borrow.Author.Tests.{eq-eqb, ne-eqb}
 use lib.Dec.{eqb}
 use lib.ListN.{length, getD, take, drop, drop-of-length-le, length-take, length-drop}
-use Rattle.rules.specs.Rule.{iff}
-use Rattle.rules.proofs.Steps.{iff-both}
+use Rattle.rules.specs.Rule.{choose}
+use Rattle.rules.proofs.Steps.{choose-both}
 use Rattle.script.specs.Text.{upto}
 use Rattle.numbers.proofs.Lists.{next}
 
@@ -21,11 +21,11 @@ ending-none xs mark from = record { left = refl }
 
 module _ {xs : List ℕ} {mark from at : ℕ} (e : Ending xs mark from at) where
   pub ending-stop : at < length xs → getD xs at 0 ≡ mark → at ≡ from + length (upto mark (drop from xs))
-  unfolding upto iff
+  unfolding upto choose
   ending-stop h q = rw (e .left, next xs at h, eq-eqb _ _ q, add-zero)
 
   pub ending-more : at < length xs → (getD xs at 0 ≡ mark → ⊥) → Ending xs mark from (at + 1)
-  unfolding upto iff
+  unfolding upto choose
   ending-more h q = record { left = rw (e .left, next xs at h, ne-eqb _ _ q) (omega arith) }
 
   pub ending-end : length xs ≤ at → at ≡ from + length (upto mark (drop from xs))
@@ -38,7 +38,7 @@ upto-take : (mark : ℕ) (l : List ℕ) → take (length (upto mark l)) l ≡ up
 unfolding upto
 upto-take mark [] = refl
 upto-take mark (b ∷ l) =
-    iff-both (λ u. take (length u) (b ∷ l) ≡ u) (eqb b mark) [] (b ∷ upto mark l) (λ _. refl) (λ _. ap (λ u. b ∷ u) (upto-take mark l))
+    choose-both (λ u. take (length u) (b ∷ l) ≡ u) (eqb b mark) [] (b ∷ upto mark l) (λ _. refl) (λ _. ap (λ u. b ∷ u) (upto-take mark l))
 
 pub upto-within : (mark : ℕ) (l : List ℕ) → length (upto mark l) ≤ length l
 upto-within mark l = rw (← upto-take mark l, length-take) (omega arith)

@@ -8,8 +8,8 @@ use native.Mathlib.Omega.{arith}
 use lib.Dec.{eqb}
 use lib.ListN.{length, getD, drop, List·getD-eq-default, length-append, length-drop, drop-of-length-le}
 use lib.Seq.{drop-drop, drop-append-add, getD-drop}
-use Rattle.rules.specs.Rule.{iff}
-use Rattle.rules.proofs.Steps.{iff-both, both-left, both-right}
+use Rattle.rules.specs.Rule.{choose}
+use Rattle.rules.proofs.Steps.{choose-both, both-left, both-right}
 use Rattle.script.specs.Text.{lf, upto}
 use Rattle.script.specs.Rows.{Row, createRow, rows}
 use Rattle.script.specs.Lines.{form, text, takenBy, onTaken, fits, made, numberIn, numbersOf, callAt, readBy}
@@ -50,27 +50,27 @@ texts (r ∷ rs) = form r ++ (lf ∷ texts rs)
 -- a line's form has no line end in it
 pub clean : List ℕ → Bool
 clean [] = true
-clean (b ∷ f) = iff (eqb b lf) false (clean f)
+clean (b ∷ f) = choose (eqb b lf) false (clean f)
 
 pub allClean : List Row → Bool
 allClean [] = true
-allClean (r ∷ rs) = iff (clean (form r)) (allClean rs) false
+allClean (r ∷ rs) = choose (clean (form r)) (allClean rs) false
 
 upto-clean : (f more : List ℕ) → clean f ≡ true → upto lf (f ++ (lf ∷ more)) ≡ f
-unfolding clean upto iff
+unfolding clean upto choose
 upto-clean [] more e = refl
 upto-clean (b ∷ f) more e =
-    iff-both (λ c. c ≡ true → upto lf (b ∷ (f ++ (lf ∷ more))) ≡ b ∷ f) (eqb b lf) false (clean f)
+    choose-both (λ c. c ≡ true → upto lf (b ∷ (f ++ (lf ∷ more))) ≡ b ∷ f) (eqb b lf) false (clean f)
     (λ q h. absurd (let z : _≡_ {A = ℕ} 0 1 = cc in omega arith))
     (λ q h. rw q (ap (λ l. b ∷ l) (upto-clean f more h)))
     e
 
 -- a line end ends the row, whatever follows
 fits-ended : (f more : List ℕ) → fits (f ++ (lf ∷ more)) ≡ fits (f ++ (lf ∷ []))
-unfolding fits iff
+unfolding fits choose
 fits-ended [] more = refl
 fits-ended (b ∷ f) more =
-    fun-ext λ l. ap (λ k. iff (eqb b lf) (eqb (length l) 0) (onTaken (takenBy b l) false (λ n. k (drop n l)))) (fits-ended f more)
+    fun-ext λ l. ap (λ k. choose (eqb b lf) (eqb (length l) 0) (onTaken (takenBy b l) false (λ n. k (drop n l)))) (fits-ended f more)
 
 row-drop : (row : ℕ) → getD rows row createRow ≡ getD (drop row rows) 0 createRow
 row-drop row = sym (getD-drop row rows 0 createRow ∙ ap (λ k. getD rows k createRow) (add-zero row))
@@ -88,13 +88,13 @@ pub record Trying (table line : List ℕ) (at row : ℕ) : Type 0 where
   pub ahead : Ahead table line at row left
 
 pub trying-none : (table line : List ℕ) → table ≡ texts rows → Trying table line 0 0
-unfolding allClean clean iff
+unfolding allClean clean choose
 trying-none table line e = record { left = rows; ahead = record { within = omega arith; are = refl; clean = refl; lines = e; read = refl } }
 
 module _ {table line : List ℕ} {at row : ℕ} where
   here : (left : List Row) → Ahead table line at row left → row < length rows → {z : Call} → fits (drop at table) line ≡ true
       → z ≡ callAt row (numbersOf line) → Reads z ≡ readBy rows line
-  unfolding texts callAt readBy iff
+  unfolding texts callAt readBy choose
   here [] a h q e = absurd (omega (arith, ap length (a .are), length-drop row rows))
   here (r ∷ rs) a h q e =
       let f : fits (text r) line ≡ true = rw (a .lines, fits-ended (form r) (texts rs)) at q in
@@ -103,7 +103,7 @@ module _ {table line : List ℕ} {at row : ℕ} where
 
   after : (left : List Row) → Ahead table line at row left → row < length rows → {to : ℕ} → fits (drop at table) line ≡ false
       → to ≡ at + length (upto lf (drop at table)) → Trying table line (to + 1) (row + 1)
-  unfolding texts allClean readBy iff
+  unfolding texts allClean readBy choose
   after [] a h q e = absurd (omega (arith, ap length (a .are), length-drop row rows))
   after (r ∷ rs) a h {to} q e =
       let f : fits (text r) line ≡ false = rw (a .lines, fits-ended (form r) (texts rs)) at q in

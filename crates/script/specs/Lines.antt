@@ -5,7 +5,7 @@ use mathlib.Core.Bool.{Bool, false}
 use mathlib.Core.List.{List, [], _∷_, _++_}
 use lib.Dec.{eqb, leb}
 use lib.ListN.{length, getD, drop}
-use Rattle.rules.specs.Rule.{iff, need}
+use Rattle.rules.specs.Rule.{choose, need}
 use Rattle.calls.specs.declared.Call.{Call}
 use Rattle.script.specs.Text.{bytes, tab, lf, upto}
 use Rattle.numbers.specs.Number.{numberOf}
@@ -46,7 +46,7 @@ starts b (c ∷ l) = eqb c b
 -- how much of a line a byte of a row stands for: `#` for a field that is a number, any other for itself
 unfoldable pub takenBy : ℕ → List ℕ → Taken
 takenBy b l =
-    iff (eqb b place) (onNumber (numberOf (field l)) Nothing (λ n. Bytes (length (field l))))
+    choose (eqb b place) (onNumber (numberOf (field l)) Nothing (λ n. Bytes (length (field l))))
     (need (starts b l) Nothing (Bytes 1))
 
 unfoldable pub onTaken : {A : Type 0} → Taken → A → (ℕ → A) → A
@@ -56,7 +56,7 @@ onTaken (Bytes n) z k = k n
 -- whether a line is of a row's form
 unfoldable pub fits : List ℕ → List ℕ → Bool
 fits [] l = false
-fits (b ∷ t) l = iff (eqb b lf) (eqb (length l) 0) (onTaken (takenBy b l) false (λ n. fits t (drop n l)))
+fits (b ∷ t) l = choose (eqb b lf) (eqb (length l) 0) (onTaken (takenBy b l) false (λ n. fits t (drop n l)))
 
 -- a line's field, counted from 0
 unfoldable pub fieldAt : ℕ → List ℕ → List ℕ
@@ -80,7 +80,7 @@ callAt row ns = made (getD rows row createRow) ns
 -- the first row that the line fits
 unfoldable pub readBy : List Row → List ℕ → Line
 readBy [] l = line.Unreadable
-readBy (r ∷ rs) l = iff (fits (text r) l) (line.Call (made r (numbersOf l))) (readBy rs l)
+readBy (r ∷ rs) l = choose (fits (text r) l) (line.Call (made r (numbersOf l))) (readBy rs l)
 
 -- "a line above 120 bytes (LF not counted)"
 abbrev pub lineMost : ℕ

@@ -4,7 +4,7 @@ use Prim.Native.Char.{code}
 use Prim.Native.String.{String, [] as none, _∷_ as _then_}
 use mathlib.Core.List.{List, [], _∷_}
 use lib.Dec.{eqb}
-use Rattle.rules.specs.Rule.{iff}
+use Rattle.rules.specs.Rule.{choose}
 
 abbrev pub bytes : String → List ℕ
 bytes none = []
@@ -19,4 +19,4 @@ lf = 10
 -- the bytes in front of the first `mark`, or all
 unfoldable pub upto : ℕ → List ℕ → List ℕ
 upto mark [] = []
-upto mark (b ∷ l) = iff (eqb b mark) [] (b ∷ upto mark l)
+upto mark (b ∷ l) = choose (eqb b mark) [] (b ∷ upto mark l)

@@ -6,8 +6,8 @@ use native.Mathlib.Nat.{pow-suc, pow-succ', div-one, div-div-eq-div-mul, le-div-
 use native.Mathlib.Omega.{arith}
 use lib.Pow.{pow-pos}
 use borrow.Author.Tests.{eqb-true, eqb-false, eq-eqb, ne-eqb}
-use Rattle.rules.specs.Rule.{iff}
-use Rattle.rules.proofs.Steps.{iff-both}
+use Rattle.rules.specs.Rule.{choose}
+use Rattle.rules.proofs.Steps.{choose-both}
 use Rattle.units.proofs.Shifts.{one-shl}
 use Rattle.stock.specs.Bits.{bitSet, withBit}
 
@@ -85,11 +85,11 @@ less-other w k j d e =
 
 module _ (w k : ℕ) where
   pub with-same : (on : Bool) → bitSet (withBit w k on) k ≡ on
-  unfolding withBit iff
-  with-same true = iff-both (λ (x : ℕ). bitSet x k ≡ true) (bitSet w k) w (w + 2 ^ k) (λ e. e) (more-same w k)
-  with-same false = iff-both (λ (x : ℕ). bitSet x k ≡ false) (bitSet w k) (w - 2 ^ k) w (less-same w k) (λ e. e)
+  unfolding withBit choose
+  with-same true = choose-both (λ (x : ℕ). bitSet x k ≡ true) (bitSet w k) w (w + 2 ^ k) (λ e. e) (more-same w k)
+  with-same false = choose-both (λ (x : ℕ). bitSet x k ≡ false) (bitSet w k) (w - 2 ^ k) w (less-same w k) (λ e. e)
 
   pub with-other : (j : ℕ) (on : Bool) → (j ≡ k → ⊥) → bitSet (withBit w k on) j ≡ bitSet w j
-  unfolding withBit iff
-  with-other j true d = iff-both (λ (x : ℕ). bitSet x j ≡ bitSet w j) (bitSet w k) w (w + 2 ^ k) (λ e. refl) (more-other w k j d)
-  with-other j false d = iff-both (λ (x : ℕ). bitSet x j ≡ bitSet w j) (bitSet w k) (w - 2 ^ k) w (less-other w k j d) (λ e. refl)
+  unfolding withBit choose
+  with-other j true d = choose-both (λ (x : ℕ). bitSet x j ≡ bitSet w j) (bitSet w k) w (w + 2 ^ k) (λ e. refl) (more-other w k j d)
+  with-other j false d = choose-both (λ (x : ℕ). bitSet x j ≡ bitSet w j) (bitSet w k) (w - 2 ^ k) w (less-other w k j d) (λ e. refl)

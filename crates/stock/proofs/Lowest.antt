@@ -6,8 +6,8 @@ use Prim.Native.Nat.{ℕ, zero, suc, _+_, _-_, _<_, _≤_}
 use mathlib.Core.Logic.{⊎-elim}
 use native.Mathlib.Nat.{eq-or-lt-of-le}
 use native.Mathlib.Omega.{arith}
-use Rattle.rules.specs.Rule.{iff}
-use Rattle.rules.proofs.Steps.{iff-both}
+use Rattle.rules.specs.Rule.{choose}
+use Rattle.rules.proofs.Steps.{choose-both}
 use Rattle.stock.specs.declared.bits.Lowest.{Lowest}
 use Rattle.stock.specs.declared.bits.Lowest.the-variants.{At, Full}
 use Rattle.stock.specs.Bits.{inUse, lowestFrom, lowestUnused, onLowest}
@@ -26,7 +26,7 @@ pub ruleset lowests = (lowest-at, lowest-full)
 
 -- a turn of the scan, and its end
 module _ (ws : List ℕ) where
-  pub scan-step : (to b : ℕ) → b < to → lowestFrom ws b (to - b) ≡ iff (inUse ws b) (lowestFrom ws (b + 1) (to - (b + 1))) (At b)
+  pub scan-step : (to b : ℕ) → b < to → lowestFrom ws b (to - b) ≡ choose (inUse ws b) (lowestFrom ws (b + 1) (to - (b + 1))) (At b)
   unfolding lowestFrom
   scan-step to b h = let e : to - b ≡ suc (to - (b + 1)) = omega arith in rw e
 
@@ -61,7 +61,7 @@ module _ (ws : List ℕ) where
   unfolding Right lowestFrom
   scan-right zero from to q = λ j h l. absurd (omega arith)
   scan-right (suc k) from to q =
-      iff-both (Right from to) (inUse ws from) (lowestFrom ws (from + 1) k) (At from)
+      choose-both (Right from to) (inUse ws from) (lowestFrom ws (from + 1) k) (At from)
       (λ e. one-more from to (lowestFrom ws (from + 1) k) e (scan-right k (from + 1) to (omega arith)))
       (λ e. record { since = omega arith; below = omega arith; unused = e; before = λ j h l. absurd (omega arith) })
 

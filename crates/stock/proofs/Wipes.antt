@@ -13,7 +13,7 @@ use lib.Dec.{ltb}
 use lib.ListN.{length, getD, set, take, drop, replicate, List·getD-append}
 use lib.ListN.{length-set, length-append, length-take, length-drop, length-replicate, getD-replicate}
 use lib.Seq.{drop-length, drop-drop, getD-take, getD-drop, getD-append-add, length-take-le}
-use Rattle.rules.proofs.Steps.{iff-both, if-lt}
+use Rattle.rules.proofs.Steps.{choose-both, if-lt}
 use Rattle.stock.specs.Wipe.{wipedAt}
 
 -- the part after i turns, from what it was
@@ -86,7 +86,7 @@ module _ (width : ℕ) (xs : List ℕ) (b : ℕ) where
   -- a fact of the wiped list: of the zeroed one, and of the list as it was
   both-ways : (P : List ℕ → Type 0) → (b * width + width ≤ length xs → P (zeroed width xs (b * width))) → P xs → P (wipedAt width xs b)
   unfolding wipedAt
-  both-ways P f p = iff-both P (ltb b (length xs / width)) _ xs (λ e. f (block-end width (length xs) b (ltb-true _ _ e))) (λ e. p)
+  both-ways P f p = choose-both P (ltb b (length xs / width)) _ xs (λ e. f (block-end width (length xs) b (ltb-true _ _ e))) (λ e. p)
 
   -- for callers: the length stays, the block reads 0, and what lies outside it stays
   pub wiped-length : length (wipedAt width xs b) ≡ length xs

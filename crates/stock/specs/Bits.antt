@@ -4,7 +4,7 @@ use mathlib.Core.Bool.{Bool}
 use mathlib.Core.List.{List}
 use lib.ListN.{getD, set}
 use lib.Dec.{eqb, ltb}
-use Rattle.rules.specs.Rule.{iff}
+use Rattle.rules.specs.Rule.{choose}
 use Rattle.stock.specs.declared.bits.Lowest.{Lowest}
 use Rattle.stock.specs.declared.bits.Lowest.the-variants.{At, Full}
 
@@ -23,7 +23,7 @@ inUse ws b = bitSet (wordOf ws b) (b % wordBits)
 
 -- the word w with bit k on or off, and its other bits as they are
 unfoldable pub withBit : ℕ → ℕ → Bool → ℕ
-withBit w k on = iff (bitSet w k) (iff on w (w - 2 ^ k)) (iff on (w + 2 ^ k) w)
+withBit w k on = choose (bitSet w k) (choose on w (w - 2 ^ k)) (choose on (w + 2 ^ k) w)
 
 unfoldable pub setUse : List ℕ → ℕ → Bool → List ℕ
 setUse ws b on = set ws (b / wordBits) (withBit (wordOf ws b) (b % wordBits) on)
@@ -32,7 +32,7 @@ setUse ws b on = set ws (b / wordBits) (withBit (wordOf ws b) (b % wordBits) on)
 module _ (ws : List ℕ) where
   unfoldable pub lowestFrom : ℕ → ℕ → Lowest
   lowestFrom b zero = Full
-  lowestFrom b (suc k) = iff (inUse ws b) (lowestFrom (b + 1) k) (At b)
+  lowestFrom b (suc k) = choose (inUse ws b) (lowestFrom (b + 1) k) (At b)
 
   -- from `from` up to but not including `to`
   unfoldable pub lowestUnused : ℕ → ℕ → Lowest

@@ -8,8 +8,8 @@ use native.Mathlib.Omega.{arith}
 use lib.Dec.{eqb}
 use borrow.Author.Tests.{eqb-true, eqb-false}
 use lib.ListN.{length}
-use Rattle.rules.specs.Rule.{iff}
-use Rattle.rules.proofs.Steps.{iff-both}
+use Rattle.rules.specs.Rule.{choose}
+use Rattle.rules.proofs.Steps.{choose-both}
 use Rattle.units.specs.Limits.{between}
 use Rattle.gauge.specs.Marks.{marksOk}
 use Rattle.gauge.specs.declared.Gauge.{Gauge}
@@ -44,15 +44,15 @@ blocked-code : (s : ℕ) → between NL-MAPPED s PENDING ≡ true → blockedSta
 unfolding blockedState
 blocked-code s h =
     let b : (NL-MAPPED ≤ s) × (s ≤ PENDING) = between-true NL-MAPPED s PENDING h in
-    iff-both (λ (x : ℕ). x ≡ s + 3) (eqb s NL-MAPPED) _ _ (λ e. omega (arith, eqb-true s NL-MAPPED e))
-    (λ n. iff-both (λ (x : ℕ). x ≡ s + 3) (eqb s MAPPED) _ _ (λ e. omega (arith, eqb-true s MAPPED e)) (λ m. omega (arith, b, eqb-false s NL-MAPPED n, eqb-false s MAPPED m)))
+    choose-both (λ (x : ℕ). x ≡ s + 3) (eqb s NL-MAPPED) _ _ (λ e. omega (arith, eqb-true s NL-MAPPED e))
+    (λ n. choose-both (λ (x : ℕ). x ≡ s + 3) (eqb s MAPPED) _ _ (λ e. omega (arith, eqb-true s MAPPED e)) (λ m. omega (arith, b, eqb-false s NL-MAPPED n, eqb-false s MAPPED m)))
 
 unblocked-code : (s : ℕ) → between NL-BLOCKED s PENDING-BLOCKED ≡ true → unblockedState s ≡ s - 3
 unfolding unblockedState
 unblocked-code s h =
     let b : (NL-BLOCKED ≤ s) × (s ≤ PENDING-BLOCKED) = between-true NL-BLOCKED s PENDING-BLOCKED h in
-    iff-both (λ (x : ℕ). x ≡ s - 3) (eqb s NL-BLOCKED) _ _ (λ e. omega (arith, eqb-true s NL-BLOCKED e))
-    (λ n. iff-both (λ (x : ℕ). x ≡ s - 3) (eqb s BLOCKED) _ _ (λ e. omega (arith, eqb-true s BLOCKED e)) (λ m. omega (arith, b, eqb-false s NL-BLOCKED n, eqb-false s BLOCKED m)))
+    choose-both (λ (x : ℕ). x ≡ s - 3) (eqb s NL-BLOCKED) _ _ (λ e. omega (arith, eqb-true s NL-BLOCKED e))
+    (λ n. choose-both (λ (x : ℕ). x ≡ s - 3) (eqb s BLOCKED) _ _ (λ e. omega (arith, eqb-true s BLOCKED e)) (λ m. omega (arith, b, eqb-false s NL-BLOCKED n, eqb-false s BLOCKED m)))
 
 -- a call's plan answers with the number of its first check that fails, and does its row's effect
 pub plan-first : (base : Hpa) (t : Tables) (c : Call) → Numbers (row (reads c) (view t) (effectOf base t c)) (planOf base t c) (checksOf base t c)
@@ -85,8 +85,8 @@ carried-number g t (Say a) = refl
 carried-number g t (Do e) = refl
 
 by-thirteen : (a b : Bool) (t : Tables) (g : Gauge) (o : Outcome) (cs : List Check) → numberOf (o .answer) ≡ firstNo cs
-    → numberOf (iff a (iff b o (outcome (No 13 0) t g)) (outcome (No 13 0) t g) .answer) ≡ firstNo (check tables a ∷ check marks b ∷ cs)
-unfolding firstNo iff valuesOf
+    → numberOf (choose a (choose b o (outcome (No 13 0) t g)) (outcome (No 13 0) t g) .answer) ≡ firstNo (check tables a ∷ check marks b ∷ cs)
+unfolding firstNo choose valuesOf
 by-thirteen false b t g o cs e = refl
 by-thirteen true false t g o cs e = refl
 by-thirteen true true t g o cs e = e
@@ -100,18 +100,18 @@ answered base t g c =
 
 -- So a number is given exactly when a check of that number fails and none before it does ..
 pub fails-given : (n : ℕ) (cs : List Check) → Fails n cs → firstNo cs ≡ n
-unfolding firstNo iff
+unfolding firstNo choose
 fails-given n (c ∷ cs) (here e) = e
 fails-given n (c ∷ cs) (later f) = fails-given n cs f
 
 -- .. and 0 exactly when none fails.
 pub passes-given : (cs : List Check) → Passes cs → firstNo cs ≡ 0
-unfolding firstNo iff
+unfolding firstNo choose
 passes-given [] none = refl
 passes-given (c ∷ cs) (one p) = passes-given cs p
 
 by-why : (w : Reason) (b : Bool) (cs : List Check) → Fails (firstNo cs) cs ⊎ Passes cs → Fails (firstNo (check w b ∷ cs)) (check w b ∷ cs) ⊎ Passes (check w b ∷ cs)
-unfolding firstNo iff
+unfolding firstNo choose
 by-why w false cs r = inl (here refl)
 by-why w true cs (inl f) = inl (later f)
 by-why w true cs (inr p) = inr (one p)
@@ -121,13 +121,13 @@ given-why [] = inr none
 given-why (c ∷ cs) = by-why (c .why) (c .well) cs (given-why cs)
 
 -- The checks of every row stand in the order of the paper's paragraph "Order", reclaim's own order included; none is 15's.
-either-order : (p : ℕ) (b : Bool) (cs ds : List Check) → inOrder p cs ≡ true → inOrder p ds ≡ true → inOrder p (iff b cs ds) ≡ true
-unfolding iff
+either-order : (p : ℕ) (b : Bool) (cs ds : List Check) → inOrder p cs ≡ true → inOrder p ds ≡ true → inOrder p (choose b cs ds) ≡ true
+unfolding choose
 either-order p true cs ds e f = e
 either-order p false cs ds e f = f
 
 pub ordered : (base : Hpa) (t : Tables) (g : Gauge) (c : Call) → inOrder 1 (allChecks base t g c) ≡ true
-unfolding inOrder iff checksOf
+unfolding inOrder choose checksOf
 ordered base t g (call.Create f k) = refl
 ordered base t g (call.KeyConfig d) = refl
 ordered base t g (call.AddCx d f) = refl
@@ -152,7 +152,7 @@ Page : ℕ → Type 0
 Page n = (n ≡ 0) ⊎ ((n ≡ 1) ⊎ (n ≡ 13))
 
 by-page : (a b c : Bool) → Page (firstNo (check tables a ∷ check marks b ∷ check operand c ∷ []))
-unfolding Page firstNo iff
+unfolding Page firstNo choose
 by-page false b c = inr (inr refl)
 by-page true false c = inr (inr refl)
 by-page true true false = inr (inl refl)

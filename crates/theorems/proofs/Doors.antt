@@ -9,8 +9,8 @@ use native.Mathlib.Decide.{ℕ-discrete, decLt}
 use lib.Dec.{eqb}
 use lib.ListN.{length, getD, List·getD-eq-default}
 use borrow.Author.Tests.{eq-eqb, ne-eqb, leb-true}
-use Rattle.rules.specs.Rule.{iff, given}
-use Rattle.rules.proofs.Steps.{iff-both, both-left, both-right}
+use Rattle.rules.specs.Rule.{choose, given}
+use Rattle.rules.proofs.Steps.{choose-both, both-left, both-right}
 use Rattle.units.specs.declared.address.Hpa.{Hpa}
 use Rattle.gauge.specs.Marks.{marksOk}
 use Rattle.gauge.specs.declared.Gauge.{Gauge}
@@ -56,14 +56,14 @@ door-once base t g r v w t₁ t₂ g₁ g₂ p q =
 
 -- ---- each number is that of the first check that fails
 
-by-one : (b : Bool) (t t′ : Tables) (g g′ : Gauge) → numberOf (iff b (outcome (answer.Done) t′ g′) (outcome (answer.No 13 0) t g) .answer) ≡ firstNo (check tables b ∷ [])
-unfolding firstNo iff valuesOf
+by-one : (b : Bool) (t t′ : Tables) (g g′ : Gauge) → numberOf (choose b (outcome (answer.Done) t′ g′) (outcome (answer.No 13 0) t g) .answer) ≡ firstNo (check tables b ∷ [])
+unfolding firstNo choose valuesOf
 by-one false t t′ g g′ = refl
 by-one true t t′ g g′ = refl
 
 by-two : (a b : Bool) (t : Tables) (g g′ : Gauge)
-    → numberOf (iff a (iff b (outcome (answer.Done) t g′) (outcome (answer.No 1 0) t g)) (outcome (answer.No 13 0) t g) .answer) ≡ firstNo (check tables a ∷ check operand b ∷ [])
-unfolding firstNo iff valuesOf
+    → numberOf (choose a (choose b (outcome (answer.Done) t g′) (outcome (answer.No 1 0) t g)) (outcome (answer.No 13 0) t g) .answer) ≡ firstNo (check tables a ∷ check operand b ∷ [])
+unfolding firstNo choose valuesOf
 by-two false b t g g′ = refl
 by-two true false t g g′ = refl
 by-two true true t g g′ = refl
@@ -73,7 +73,7 @@ unfolding askOf askChecks
 ask-answered base t g (Host c) = answered base t g c
 ask-answered base t g (Marks raise clear) = unfold marksOf given in by-two (lentOk base t) (marksOk raise clear (length (t .frames))) t g _
 ask-answered base t g Reset = unfold resetOf in by-one _ t _ g _
-ask-answered base t g Unreadable = unfold firstNo iff valuesOf in refl
+ask-answered base t g Unreadable = unfold firstNo choose valuesOf in refl
 
 pub door-answered : (base : Hpa) (t : Tables) (g : Gauge) (r : Request) → doorOf base t g r .values .number ≡ firstNo (askChecks base t g (askFor r))
 unfolding doorOf
@@ -123,7 +123,7 @@ most-15 unreadable = omega arith
 first-most : (cs : List Check) → firstNo cs ≤ 15
 unfolding firstNo
 first-most [] = omega arith
-first-most (c ∷ cs) = iff-both (λ (n : ℕ). n ≤ 15) (c .well) _ _ (λ _. first-most cs) (λ _. most-15 (c .why))
+first-most (c ∷ cs) = choose-both (λ (n : ℕ). n ≤ 15) (c .well) _ _ (λ _. first-most cs) (λ _. most-15 (c .why))
 
 pub door-most : (base : Hpa) (t : Tables) (g : Gauge) (r : Request) → doorOf base t g r .values .number ≤ 15
 door-most base t g r = rw (door-answered base t g r) (first-most (askChecks base t g (askFor r)))
@@ -157,7 +157,7 @@ unfolding firstNo inOrder
 first-not-15 p [] h o = λ e. omega arith
 first-not-15 p (c ∷ cs) h o =
     let k : p ≤ place (c .why) = leb-true _ _ (both-left _ _ o) in
-    iff-both (λ (n : ℕ). n ≡ 15 → ⊥) (c .well) _ _ (λ _. first-not-15 (place (c .why)) cs (omega arith) (both-right _ _ o)) (λ _. not-15 (c .why) (omega arith))
+    choose-both (λ (n : ℕ). n ≡ 15 → ⊥) (c .well) _ _ (λ _. first-not-15 (place (c .why)) cs (omega arith) (both-right _ _ o)) (λ _. not-15 (c .why) (omega arith))
 
 readable : Ask → Bool
 readable (Host c) = true
@@ -167,7 +167,7 @@ readable Unreadable = false
 
 all-readable : List Ask → Bool
 all-readable [] = true
-all-readable (a ∷ l) = iff (readable a) (all-readable l) false
+all-readable (a ∷ l) = choose (readable a) (all-readable l) false
 
 readable-at : (l : List Ask) (n : ℕ) → all-readable l ≡ true → n < length l → readable (getD l n Unreadable) ≡ true
 unfolding all-readable
@@ -179,17 +179,17 @@ readable-at (a ∷ l) (suc n) h k = readable-at l n (both-right _ _ h) (omega ar
 ask-not-15 : (base : Hpa) (t : Tables) (g : Gauge) (a : Ask) → readable a ≡ true → firstNo (askChecks base t g a) ≡ 15 → ⊥
 unfolding askChecks readable
 ask-not-15 base t g (Host c) h = first-not-15 1 _ (omega arith) (ordered base t g c)
-ask-not-15 base t g (Marks raise clear) h = first-not-15 1 _ (omega arith) (unfold inOrder iff in refl)
-ask-not-15 base t g Reset h = first-not-15 1 _ (omega arith) (unfold inOrder iff in refl)
+ask-not-15 base t g (Marks raise clear) h = first-not-15 1 _ (omega arith) (unfold inOrder choose in refl)
+ask-not-15 base t g Reset h = first-not-15 1 _ (omega arith) (unfold inOrder choose in refl)
 ask-not-15 base t g Unreadable h = absurd (true≢false (sym h))
 
 module _ (base : Hpa) (t : Tables) (g : Gauge) (r : Request) where
   pub door-unreadable : length (asks r) ≤ r .call → doorOf base t g r .values .number ≡ 15
-  unfolding askAt askChecks firstNo iff
+  unfolding askAt askChecks firstNo choose
   door-unreadable h = door-answered base t g r ∙ rw (List·getD-eq-default {A = Ask} (asks r) Unreadable h) refl
 
   pub door-readable : doorOf base t g r .values .number ≡ 15 → length (asks r) ≤ r .call
-  unfolding askAt all-readable readable iff
+  unfolding askAt all-readable readable choose
   door-readable e = go (decLt (r .call) (length (asks r)))
     where
       go : Dec (r .call < length (asks r)) → length (asks r) ≤ r .call
@@ -206,17 +206,17 @@ zeros-done : Zeros (answer.Done)
 unfolding Zeros valuesOf
 zeros-done = refl
 
-zeros-iff : (b : Bool) (o p : Outcome) → Zeros (o .answer) → Zeros (p .answer) → Zeros (iff b o p .answer)
-unfolding iff
-zeros-iff true o p e f = e
-zeros-iff false o p e f = f
+zeros-choose : (b : Bool) (o p : Outcome) → Zeros (o .answer) → Zeros (p .answer) → Zeros (choose b o p .answer)
+unfolding choose
+zeros-choose true o p e f = e
+zeros-choose false o p e f = f
 
 pub ask-zeros : (base : Hpa) (t : Tables) (g : Gauge) (a : Ask) → (numberOf (askOf base t g a .answer) ≡ 6 → ⊥) → (numberOf (askOf base t g a .answer) ≡ 7 → ⊥)
     → (numberOf (askOf base t g a .answer) ≡ 0 → readsOut a ≡ false) → Zeros (askOf base t g a .answer)
 unfolding askOf readsOut
 ask-zeros base t g (Host c) = zeros base t g c
-ask-zeros base t g (Marks raise clear) = λ _ _ _. unfold marksOf given in zeros-iff _ _ _ (zeros-iff _ _ _ zeros-done (zeros-no 1 0)) (zeros-no 13 0)
-ask-zeros base t g Reset = λ _ _ _. unfold resetOf in zeros-iff _ _ _ zeros-done (zeros-no 13 0)
+ask-zeros base t g (Marks raise clear) = λ _ _ _. unfold marksOf given in zeros-choose _ _ _ (zeros-choose _ _ _ zeros-done (zeros-no 1 0)) (zeros-no 13 0)
+ask-zeros base t g Reset = λ _ _ _. unfold resetOf in zeros-choose _ _ _ zeros-done (zeros-no 13 0)
 ask-zeros base t g Unreadable = λ _ _ _. zeros-no 15 0
 
 pub door-zeros : (base : Hpa) (t : Tables) (g : Gauge) (r : Request) → (doorOf base t g r .values .number ≡ 6 → ⊥) → (doorOf base t g r .values .number ≡ 7 → ⊥)
@@ -238,9 +238,9 @@ ask-reached r g (Marks raise clear) = marked r g raise clear
 ask-reached r g Unreadable = r
 ask-reached {base} {t} {l} r g Reset = go (ℕ-discrete (numberOf (resetOf base t g .answer)) 0)
   where
-    go : Dec (numberOf (resetOf base t g .answer) ≡ 0) → Reached base (resetOf base t g .tables) (iff (eqb (numberOf (resetOf base t g .answer)) 0) (λ e. []) l)
-    go (yes e) = unfold iff in rw (eq-eqb _ 0 e) (fresh t g e)
-    go (no e) = unfold iff in rw (ne-eqb _ 0 e, reset-kept base t g .kept e .0) r
+    go : Dec (numberOf (resetOf base t g .answer) ≡ 0) → Reached base (resetOf base t g .tables) (choose (eqb (numberOf (resetOf base t g .answer)) 0) (λ e. []) l)
+    go (yes e) = unfold choose in rw (eq-eqb _ 0 e) (fresh t g e)
+    go (no e) = unfold choose in rw (ne-eqb _ 0 e, reset-kept base t g .kept e .0) r
 
 pub door-reached : {base : Hpa} {t : Tables} {l : Lists} → Reached base t l → (g : Gauge) (r : Request) → Reached base (doorOf base t g r .tables) (leftAfter base t g (askFor r) l)
 unfolding doorOf

@@ -2,7 +2,7 @@
 use mathlib.Core.Path.{_≡_, refl, ap, _∙_}
 use mathlib.Core.Bool.{Bool, true}
 use Prim.Native.Nat.{ℕ}
-use Rattle.rules.proofs.Steps.{iff-both}
+use Rattle.rules.proofs.Steps.{choose-both}
 use Rattle.units.specs.declared.address.Hpa.{Hpa}
 use Rattle.gauge.specs.declared.Gauge.{Gauge}
 use Rattle.ledger.specs.Tables.{Tables}
@@ -55,4 +55,4 @@ module _ (base : Hpa) (t : Tables) (g : Gauge) (c : Call) where
 
   pub effects : Accepts (callOf base t g c)
   unfolding callOf valuesOf
-  effects = iff-both Accepts _ _ _ (λ ok. iff-both Accepts _ _ _ (λ _. by-rule ok) (λ _. never refl)) (λ _. never refl)
+  effects = choose-both Accepts _ _ _ (λ ok. choose-both Accepts _ _ _ (λ _. by-rule ok) (λ _. never refl)) (λ _. never refl)

@@ -6,8 +6,8 @@ use native.Mathlib.Omega.{arith}
 use lib.Ieee.{binary64, toBits}
 use lib.ListN.{length}
 use borrow.Author.Tests.{eq-eqb}
-use Rattle.rules.specs.Rule.{iff, given}
-use Rattle.rules.proofs.Steps.{iff-both, both-left, both-right}
+use Rattle.rules.specs.Rule.{choose, given}
+use Rattle.rules.proofs.Steps.{choose-both, both-left, both-right}
 use Rattle.units.specs.Limits.{framesOk}
 use Rattle.units.specs.declared.address.Hpa.{Hpa}
 use Rattle.gauge.specs.Fill.{ratio, ratioBits}
@@ -53,10 +53,10 @@ by-rule base t g c ok a =
     }
   where
     stored : ruleOf base t g c .gauge .fill ≡ ratio (usedFrames (ruleOf base t g c .tables .frames)) (length (ruleOf base t g c .tables .frames))
-    stored = unfold ruleOf settled gaugeAfter given iff in rw (eq-eqb _ 0 a) refl
+    stored = unfold ruleOf settled gaugeAfter given choose in rw (eq-eqb _ 0 a) refl
 
 pub fill-exact : (base : Hpa) (t : Tables) (g : Gauge) (c : Call) → Accepted (callOf base t g c) → Exact (callOf base t g c)
 unfolding callOf
-fill-exact base t g c = iff-both (λ (o : Outcome). Accepted o → Exact o) _ _ _
-    (λ ok. iff-both (λ (o : Outcome). Accepted o → Exact o) _ _ _ (λ _. by-rule base t g c ok) (λ _ a. absurd (not-thirteen a)))
+fill-exact base t g c = choose-both (λ (o : Outcome). Accepted o → Exact o) _ _ _
+    (λ ok. choose-both (λ (o : Outcome). Accepted o → Exact o) _ _ _ (λ _. by-rule base t g c ok) (λ _ a. absurd (not-thirteen a)))
     (λ _ a. absurd (not-thirteen a))

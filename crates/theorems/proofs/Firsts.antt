@@ -8,7 +8,7 @@ use native.Mathlib.Omega.{arith}
 use lib.Dec.{ltb}
 use borrow.Author.Tests.{ltb-true}
 use lib.ListN.{length}
-use Rattle.rules.specs.Rule.{iff, given}
+use Rattle.rules.specs.Rule.{choose, given}
 use Rattle.units.specs.Limits.{between}
 use Rattle.units.specs.Address.{frameOf}
 use Rattle.levels.specs.Level.{levelOk, gpaFits}
@@ -136,14 +136,14 @@ unfolding numberP firstNo valuesOf TellsP Tells Does
 entry-read l i h = record { is = refl; tells = refl; does = λ _. refl }
 
 -- a check, else the refusal of its reason
-pub needed : {r : Row} {p : Plan} {cs : List Check} (w : Reason) (b : Bool) (k : ℕ) → Numbers r p cs → Numbers r (iff b p (refuse (number w) k)) (check w b ∷ cs)
-unfolding numberP firstNo iff valuesOf TellsP Tells Does
+pub needed : {r : Row} {p : Plan} {cs : List Check} (w : Reason) (b : Bool) (k : ℕ) → Numbers r p cs → Numbers r (choose b p (refuse (number w) k)) (check w b ∷ cs)
+unfolding numberP firstNo choose valuesOf TellsP Tells Does
 needed w true k e = record { is = e .is; tells = e .tells; does = e .does }
 needed w false k e = record { is = refl; tells = tt; does = never (positive w) }
 
 -- a refusal where a test holds
-pub unless : {r : Row} {p : Plan} {cs : List Check} (w : Reason) (b : Bool) (k : ℕ) → Numbers r p cs → Numbers r (iff b (refuse (number w) k) p) (check w (not b) ∷ cs)
-unfolding numberP firstNo iff valuesOf TellsP Tells Does
+pub unless : {r : Row} {p : Plan} {cs : List Check} (w : Reason) (b : Bool) (k : ℕ) → Numbers r p cs → Numbers r (choose b (refuse (number w) k) p) (check w (not b) ∷ cs)
+unfolding numberP firstNo choose valuesOf TellsP Tells Does
 unless w true k e = record { is = refl; tells = tt; does = never (positive w) }
 unless w false k e = record { is = e .is; tells = e .tells; does = e .does }
 
@@ -153,20 +153,20 @@ named-is v k e = record { is = e .is; tells = e .tells; does = e .does }
 
 -- two ways, each with checks and an effect of its own, or both with the same
 pub either : {r : Bool} {s v w : View} {p q : Plan} {cs ds : List Check} (b : Bool) → Numbers (row r s v) p cs → Numbers (row r s w) q ds
-    → Numbers (row r s (iff b v w)) (iff b p q) (iff b cs ds)
-unfolding iff
+    → Numbers (row r s (choose b v w)) (choose b p q) (choose b cs ds)
+unfolding choose
 either true e f = e
 either false e f = f
 
-pub both : {r : Row} {p q : Plan} {cs : List Check} (b : Bool) → Numbers r p cs → Numbers r q cs → Numbers r (iff b p q) cs
-unfolding iff
+pub both : {r : Row} {p q : Plan} {cs : List Check} (b : Bool) → Numbers r p cs → Numbers r q cs → Numbers r (choose b p q) cs
+unfolding choose
 both true e f = e
 both false e f = f
 
 -- a check on one way alone, which must not fail there
 pub child-first : {r : Bool} {s v w : View} {p q : Plan} {cs : List Check} (a b : Bool) (k : ℕ) → Numbers (row r s v) p cs → Numbers (row r s w) q cs
-    → Numbers (row r s (iff a v w)) (iff a (iff b p (refuse 14 k)) q) (check count (iff a b true) ∷ cs)
-unfolding numberP firstNo iff valuesOf TellsP Tells Does
+    → Numbers (row r s (choose a v w)) (choose a (choose b p (refuse 14 k)) q) (check count (choose a b true) ∷ cs)
+unfolding numberP firstNo choose valuesOf TellsP Tells Does
 child-first true true k e f = record { is = e .is; tells = e .tells; does = e .does }
 child-first true false k e f = record { is = refl; tells = tt; does = never refl }
 child-first false b k e f = record { is = f .is; tells = f .tells; does = f .does }
@@ -175,7 +175,7 @@ child-first false b k e f = record { is = f .is; tells = f .tells; does = f .doe
 by-place : {r : Row} {cs : List Check} (at : Place) (k : ℕ) (next : Pfn → Plan)
     → Numbers r (next (onPlace at (record { 0 = 0 }) λ n. n)) cs
     → Numbers r (onOperand (onPlace at (Bad k) Frame) (refuse 1) next) (check operand (onPlace at false λ n. true) ∷ cs)
-unfolding onPlace onOperand numberP firstNo iff valuesOf TellsP Tells Does
+unfolding onPlace onOperand numberP firstNo choose valuesOf TellsP Tells Does
 by-place (place.At n) k next e = record { is = e .is; tells = e .tells; does = e .does }
 by-place (place.Outside) k next e = record { is = refl; tells = tt; does = never refl }
 
@@ -198,7 +198,7 @@ none-besides = record { then = λ next k e. e }
 by-party : {r : Row} {cs : List Check} (at : Place) (j : ℕ) (next : Pfn → Parties) (k : Found → Pfn → Plan)
     → Numbers r (onParties (next (onPlace at (record { 0 = 0 }) λ n. n)) Say k) cs
     → Numbers r (onParties (onOperand (onPlace at (Bad j) Frame) (λ i. parties.Not (answer.No 1 i)) next) Say k) (check operand (onPlace at false λ n. true) ∷ cs)
-unfolding onPlace onOperand onParties numberP firstNo iff valuesOf TellsP Tells Does
+unfolding onPlace onOperand onParties numberP firstNo choose valuesOf TellsP Tells Does
 by-party (place.At n) j next k e = record { is = e .is; tells = e .tells; does = e .does }
 by-party (place.Outside) j next k e = record { is = refl; tells = tt; does = never refl }
 
@@ -209,8 +209,8 @@ frame-besides base frames hpa j = record { then = by-party (frameOf base frames 
 
 by-spot : {r : Row} {cs : List Check} (b c : Bool) (o : Operand) (next : Pfn → Parties) (k : Found → Pfn → Plan)
     → Numbers r (onParties (onOperand o (λ j. parties.Not (answer.No 1 j)) next) Say k) cs
-    → Numbers r (onParties (onOperand (iff b (iff c o (Bad 2)) (Bad 1)) (λ j. parties.Not (answer.No 1 j)) next) Say k) (check operand b ∷ check operand c ∷ cs)
-unfolding onOperand onParties numberP firstNo iff valuesOf TellsP Tells Does
+    → Numbers r (onParties (onOperand (choose b (choose c o (Bad 2)) (Bad 1)) (λ j. parties.Not (answer.No 1 j)) next) Say k) (check operand b ∷ check operand c ∷ cs)
+unfolding onOperand onParties numberP firstNo choose valuesOf TellsP Tells Does
 by-spot false c o next k e = record { is = refl; tells = tt; does = never refl }
 by-spot true false o next k e = record { is = refl; tells = tt; does = never refl }
 by-spot true true o next k e = record { is = e .is; tells = e .tells; does = e .does }
@@ -222,8 +222,8 @@ spot-besides {o} gpa level lowest b = record { then = λ next k e. by-spot (gpaF
 
 -- ---- the domain
 by-domain : {r : Row} {cs : List Check} (a b : Bool) (x : Found) (m : Pfn) (k : Found → Pfn → Plan) → Numbers r (k x m) cs
-    → Numbers r (onParties (onLookup (iff a (iff b (Is x) (Not (answer.No 14 0))) (Not (answer.No 2 0))) parties.Not λ x. parties.Are x m) Say k) (check domain a ∷ check record′ b ∷ cs)
-unfolding onLookup onParties numberP firstNo iff valuesOf TellsP Tells Does
+    → Numbers r (onParties (onLookup (choose a (choose b (Is x) (Not (answer.No 14 0))) (Not (answer.No 2 0))) parties.Not λ x. parties.Are x m) Say k) (check domain a ∷ check record′ b ∷ cs)
+unfolding onLookup onParties numberP firstNo choose valuesOf TellsP Tells Does
 by-domain false b x m k e = record { is = refl; tells = tt; does = never refl }
 by-domain true false x m k e = record { is = refl; tells = tt; does = never refl }
 by-domain true true x m k e = record { is = e .is; tells = e .tells; does = e .does }
@@ -240,8 +240,8 @@ parties-first {m = m} base t d k b e =
 
 -- a domain that reclaim looks for: 14 whatever is wrong
 by-owner : {r : Row} {cs : List Check} (a b : Bool) (x : Found) (k : Found → Plan) → Numbers r (k x) cs
-    → Numbers r (onLookup (iff a (iff b (Is x) (Not (answer.No 14 0))) (Not (answer.No 2 0))) (λ z. refuse 14 0) k) (check record′ a ∷ check record′ b ∷ cs)
-unfolding onLookup numberP firstNo iff valuesOf TellsP Tells Does
+    → Numbers r (onLookup (choose a (choose b (Is x) (Not (answer.No 14 0))) (Not (answer.No 2 0))) (λ z. refuse 14 0) k) (check record′ a ∷ check record′ b ∷ cs)
+unfolding onLookup numberP firstNo choose valuesOf TellsP Tells Does
 by-owner false b x k e = record { is = refl; tells = tt; does = never refl }
 by-owner true false x k e = record { is = refl; tells = tt; does = never refl }
 by-owner true true x k e = record { is = e .is; tells = e .tells; does = e .does }
@@ -252,9 +252,9 @@ unfolding domainFor given
 owner-first t n k e = by-owner (kindIs t n TDR) (inUse (t .stock) (domainOf t n .bit)) (domainOf t n) k e
 
 by-state : {r : Row} {cs : List Check} (c d f : Bool) (x : Found) (m : Pfn) (k : Found → Pfn → Plan) → Numbers r (k x m) cs
-    → Numbers r (onParties (iff c (iff d (iff f (parties.Are x m) (parties.Not (answer.No 5 0))) (parties.Not (answer.No 4 0))) (parties.Not (answer.No 3 0))) Say k)
+    → Numbers r (onParties (choose c (choose d (choose f (parties.Are x m) (parties.Not (answer.No 5 0))) (parties.Not (answer.No 4 0))) (parties.Not (answer.No 3 0))) Say k)
     (check lifecycle c ∷ check pages d ∷ check opState f ∷ cs)
-unfolding onParties numberP firstNo iff valuesOf TellsP Tells Does
+unfolding onParties numberP firstNo choose valuesOf TellsP Tells Does
 by-state false d f x m k e = record { is = refl; tells = tt; does = never refl }
 by-state true false f x m k e = record { is = refl; tells = tt; does = never refl }
 by-state true true false x m k e = record { is = refl; tells = tt; does = never refl }
@@ -286,14 +286,14 @@ spot-first base t d gpa level lowest least most k b e = built-first base t d lea
 pub walk-first : {r : Row} {cs : List Check} (w : Walk) (k : ℕ → ℕ → Plan)
     → Numbers r (k (block w) (index w)) cs
     → Numbers r (onWalk w (λ l s. Say (answer.Stop 6 l s)) (refuse 14 0) k) (walked w cs)
-unfolding onWalk goesOn follows block index numberP firstNo iff valuesOf TellsP Tells Does
+unfolding onWalk goesOn follows block index numberP firstNo choose valuesOf TellsP Tells Does
 walk-first (walk.At b i) k e = record { is = e .is; tells = e .tells; does = e .does }
 walk-first (walk.Stopped l s) k e = record { is = refl; tells = inl refl; does = never refl }
 walk-first (walk.Foreign) k e = record { is = refl; tells = tt; does = never refl }
 
 by-entry : {r : Row} {cs : List Check} (a : Bool) (level b i : ℕ) (e : Entry) (k : ℕ → ℕ → Entry → Plan) → (a ≡ true → Numbers r (k b i e) cs)
-    → Numbers r (onReach (iff a (reach.At b i e) (reach.Not (answer.Stop 7 level (e .state)))) Say k) (check entry a ∷ cs)
-unfolding numberP firstNo iff valuesOf onReach TellsP Tells Does
+    → Numbers r (onReach (choose a (reach.At b i e) (reach.Not (answer.Stop 7 level (e .state)))) Say k) (check entry a ∷ cs)
+unfolding numberP firstNo choose valuesOf onReach TellsP Tells Does
 by-entry true level b i e k h = record { is = h refl .is; tells = h refl .tells; does = h refl .does }
 by-entry false level b i e k h = record { is = refl; tells = inr refl; does = never refl }
 
@@ -302,11 +302,11 @@ by-reach : {r : Row} {cs : List Check} (t : Tables) (w : Walk) (level least most
     → Numbers r
     (onReach
     (onWalk w (λ l s. reach.Not (answer.Stop 6 l s)) (reach.Not (answer.No 14 0)) λ b i.
-    iff (between least (entryAt (t .entries) b i .state) most) (reach.At b i (entryAt (t .entries) b i))
+    choose (between least (entryAt (t .entries) b i .state) most) (reach.At b i (entryAt (t .entries) b i))
     (reach.Not (answer.Stop 7 level (entryAt (t .entries) b i .state))))
     Say k)
     (walked w (check entry (between least (arrived t w .state) most) ∷ cs))
-unfolding onWalk goesOn follows arrived block index numberP firstNo iff valuesOf onReach TellsP Tells Does
+unfolding onWalk goesOn follows arrived block index numberP firstNo choose valuesOf onReach TellsP Tells Does
 by-reach t (walk.Stopped l s) level least most k e = record { is = refl; tells = inl refl; does = never refl }
 by-reach t (walk.Foreign) level least most k e = record { is = refl; tells = tt; does = never refl }
 by-reach t (walk.At b i) level least most k e = let h = by-entry (between least (entryAt (t .entries) b i .state) most) level b i (entryAt (t .entries) b i) k e in record { is = h .is; tells = h .tells; does = h .does }
@@ -321,15 +321,15 @@ reach-first t x gpa level least most k e = by-reach t (walkOf t x gpa level) lev
 
 -- F's 2 before the entry
 pub offered-first : {r : Row} {cs : List Check} (b : Bool) (j : ℕ) (q : Reach) (k : ℕ → ℕ → Entry → Plan) → Numbers r (onReach q Say k) cs
-    → Numbers r (onReach (iff b q (reach.Not (answer.No 2 j))) Say k) (check offered b ∷ cs)
-unfolding onReach numberP firstNo iff valuesOf TellsP Tells Does
+    → Numbers r (onReach (choose b q (reach.Not (answer.No 2 j))) Say k) (check offered b ∷ cs)
+unfolding onReach numberP firstNo choose valuesOf TellsP Tells Does
 offered-first true j q k e = record { is = e .is; tells = e .tells; does = e .does }
 offered-first false j q k e = record { is = refl; tells = tt; does = never refl }
 
 -- 8 and the frame's 14 after the entry
 by-tracked : {r : Row} {cs : List Check} (w : Reason) → number w ≡ 14 → (c d : Bool) (b i : ℕ) (e : Entry) (k : ℕ → ℕ → Entry → Plan) → Numbers r (k b i e) cs
-    → Numbers r (onReach (iff c (iff d (reach.At b i e) (reach.Not (answer.No 14 0))) (reach.Not (answer.No 8 0))) Say k) (check untracked c ∷ check w d ∷ cs)
-unfolding onReach numberP firstNo iff valuesOf TellsP Tells Does
+    → Numbers r (onReach (choose c (choose d (reach.At b i e) (reach.Not (answer.No 14 0))) (reach.Not (answer.No 8 0))) Say k) (check untracked c ∷ check w d ∷ cs)
+unfolding onReach numberP firstNo choose valuesOf TellsP Tells Does
 by-tracked w n false d b i e k h = record { is = refl; tells = tt; does = never refl }
 by-tracked w n true false b i e k h = record { is = sym n; tells = tt; does = never refl }
 by-tracked w n true true b i e k h = record { is = h .is; tells = h .tells; does = h .does }
@@ -353,6 +353,6 @@ tracked-first w n t x gpa level least most k e =
 -- ---- the stock
 pub stock-first : {r : Row} {cs : List Check} (l : Lowest) (k : ℕ → Plan) → Numbers r (k (taken l)) cs
     → Numbers r (onLowest l (refuse 11 0) k) (check stock (onLowest l false λ b. true) ∷ cs)
-unfolding onLowest taken numberP firstNo iff valuesOf TellsP Tells Does
+unfolding onLowest taken numberP firstNo choose valuesOf TellsP Tells Does
 stock-first (lowest.At b) k e = record { is = e .is; tells = e .tells; does = e .does }
 stock-first (lowest.Full) k e = record { is = refl; tells = tt; does = never refl }

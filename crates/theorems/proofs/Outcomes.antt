@@ -4,7 +4,7 @@ use mathlib.Core.Bool.{Bool, true, false, true≢false}
 use mathlib.Core.Logic.{inl, inr}
 use lib.Ieee.{Float}
 use borrow.Author.Tests.{ne-eqb}
-use Rattle.rules.specs.Rule.{iff, given}
+use Rattle.rules.specs.Rule.{choose, given}
 use Rattle.units.specs.declared.address.Hpa.{Hpa}
 use Rattle.gauge.specs.declared.Gauge.{Gauge}
 use Rattle.ledger.specs.Tables.{Tables}
@@ -27,13 +27,13 @@ pub record Kept (t : Tables) (g : Gauge) (o : Outcome) : Type 0 where
 same : (t : Tables) (g : Gauge) (a : Answer) → Kept t g (outcome a t g)
 same t g a = record { kept = λ n. (refl, refl) }
 
-kept-iff : (t : Tables) (g : Gauge) (b : Bool) (o p : Outcome) → Kept t g o → Kept t g p → Kept t g (iff b o p)
-unfolding iff
-kept-iff t g true o p e f = e
-kept-iff t g false o p e f = f
+kept-choose : (t : Tables) (g : Gauge) (b : Bool) (o p : Outcome) → Kept t g o → Kept t g p → Kept t g (choose b o p)
+unfolding choose
+kept-choose t g true o p e f = e
+kept-choose t g false o p e f = f
 
 no-change : (g : Gauge) (t : Tables) (a : Answer) → (numberOf a ≡ 0 → ⊥) → gaugeAfter g a (t .frames) ≡ g
-unfolding gaugeAfter given iff
+unfolding gaugeAfter given choose
 no-change g t a n = rw (ne-eqb (numberOf a) 0 n)
 
 kept-plan : (t : Tables) (g : Gauge) (p : Plan) → Kept t g (settled g (carried t p))
@@ -43,15 +43,15 @@ kept-plan t g (Do e) = record { kept = λ n. absurd (n refl) }
 
 pub call-kept : (base : Hpa) (t : Tables) (g : Gauge) (c : Call) → Kept t g (callOf base t g c)
 unfolding callOf ruleOf
-call-kept base t g c = kept-iff t g _ _ _ (kept-iff t g _ _ _ (kept-plan t g (planOf base t c)) (same t g _)) (same t g _)
+call-kept base t g c = kept-choose t g _ _ _ (kept-choose t g _ _ _ (kept-plan t g (planOf base t c)) (same t g _)) (same t g _)
 
 pub reset-kept : (base : Hpa) (t : Tables) (g : Gauge) → Kept t g (resetOf base t g)
 unfolding resetOf valuesOf
-reset-kept base t g = kept-iff t g _ _ _ (record { kept = λ n. absurd (n refl) }) (same t g _)
+reset-kept base t g = kept-choose t g _ _ _ (record { kept = λ n. absurd (n refl) }) (same t g _)
 
 pub marks-kept : (base : Hpa) (t : Tables) (g : Gauge) (raise clear : Float) → Kept t g (marksOf base t g raise clear)
 unfolding marksOf given valuesOf
-marks-kept base t g raise clear = kept-iff t g _ _ _ (kept-iff t g _ _ _ (record { kept = λ n. absurd (n refl) }) (same t g _)) (same t g _)
+marks-kept base t g raise clear = kept-choose t g _ _ _ (kept-choose t g _ _ _ (record { kept = λ n. absurd (n refl) }) (same t g _)) (same t g _)
 
 -- "Zeros are read out except at 6, 7 and an accepted read."
 unfoldable pub Zeros : Answer → Type 0
@@ -69,10 +69,10 @@ by-tells r (answer.Entry l s o) h p q z = absurd (true≢false (sym h ∙ z refl
 record Tidy (r : Bool) (o : Outcome) : Type 0 where
   tidy : (numberOf (o .answer) ≡ 6 → ⊥) → (numberOf (o .answer) ≡ 7 → ⊥) → (numberOf (o .answer) ≡ 0 → r ≡ false) → Zeros (o .answer)
 
-tidy-iff : (r b : Bool) (o p : Outcome) → Tidy r o → Tidy r p → Tidy r (iff b o p)
-unfolding iff
-tidy-iff r true o p e f = e
-tidy-iff r false o p e f = f
+tidy-choose : (r b : Bool) (o p : Outcome) → Tidy r o → Tidy r p → Tidy r (choose b o p)
+unfolding choose
+tidy-choose r true o p e f = e
+tidy-choose r false o p e f = f
 
 tidy-no : (r : Bool) (t : Tables) (g : Gauge) → Tidy r (outcome (answer.No 13 0) t g)
 unfolding Tells
@@ -90,6 +90,6 @@ pub zeros : (base : Hpa) (t : Tables) (g : Gauge) (c : Call)
     → Zeros (callOf base t g c .answer)
 unfolding callOf ruleOf
 zeros base t g c =
-    tidy-iff (reads c) _ _ _
-    (tidy-iff (reads c) _ _ _ (tidy-plan (reads c) t g (planOf base t c) (plan-first base t c .tells)) (tidy-no (reads c) t g))
+    tidy-choose (reads c) _ _ _
+    (tidy-choose (reads c) _ _ _ (tidy-plan (reads c) t g (planOf base t c) (plan-first base t c .tells)) (tidy-no (reads c) t g))
     (tidy-no (reads c) t g) .tidy

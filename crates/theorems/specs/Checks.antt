@@ -5,7 +5,7 @@ use mathlib.Core.Bool.{Bool, true, false, not}
 use mathlib.Core.List.{List, [], _∷_}
 use lib.ListN.{length}
 use lib.Dec.{eqb, ltb}
-use Rattle.rules.specs.Rule.{iff}
+use Rattle.rules.specs.Rule.{choose}
 use Rattle.units.specs.Limits.{between, controlPages, epochMost, keyOk}
 use Rattle.units.specs.Address.{frameOf}
 use Rattle.levels.specs.Level.{topLevel, levelOk, gpaFits}
@@ -139,7 +139,7 @@ module _ (base : Hpa) (t : Tables) where
   abbrev pub ofChild : Pfn → List Check
   ofChild n =
       inTeardown (frameAt (t .frames) n .owner) (
-      check count (iff (kindIs t n EPT) (inUse (t .stock) (frameAt (t .frames) n .number)) true)
+      check count (choose (kindIs t n EPT) (inUse (t .stock) (frameAt (t .frames) n .number)) true)
       ∷ hasChild (domainOf t (frameAt (t .frames) n .owner)))
 
   unfoldable pub checksOf : Call → List Check
@@ -212,7 +212,7 @@ module _ (base : Hpa) (t : Tables) where
   checksOf (call.Reclaim f) =
       inside f (
       check domain (not (kindIs t (window f) NDA))
-      ∷ iff (kindIs t (window f) TDR) (ofTdr (window f)) (ofChild (window f)))
+      ∷ choose (kindIs t (window f) TDR) (ofTdr (window f)) (ofChild (window f)))
   checksOf (call.ReadPage f) = inside f []
   checksOf (call.ReadEntry d gpa level) = spot base t d gpa level 0 (live t (window d) (walked (walkOf t (domainAtHpa d) gpa level) []))
 

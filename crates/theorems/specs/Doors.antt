@@ -4,7 +4,7 @@ use mathlib.Core.Bool.{Bool, false}
 use mathlib.Core.List.{List, [], _∷_}
 use lib.Dec.{eqb}
 use lib.ListN.{length}
-use Rattle.rules.specs.Rule.{iff}
+use Rattle.rules.specs.Rule.{choose}
 use Rattle.units.specs.declared.address.Hpa.{Hpa}
 use Rattle.gauge.specs.Marks.{marksOk}
 use Rattle.gauge.specs.declared.Gauge.{Gauge}
@@ -37,5 +37,5 @@ readsOut (ask.Unreadable) = false
 unfoldable pub leftAfter : Hpa → Tables → Gauge → Ask → Lists → Lists
 leftAfter base t g (ask.Host c) l = leftBy base t c (callOf base t g c) l
 leftAfter base t g (ask.Marks raise clear) l = l
-leftAfter base t g (ask.Reset) l = iff (eqb (numberOf (resetOf base t g .answer)) 0) (λ e. []) l
+leftAfter base t g (ask.Reset) l = choose (eqb (numberOf (resetOf base t g .answer)) 0) (λ e. []) l
 leftAfter base t g (ask.Unreadable) l = l

@@ -5,7 +5,7 @@ use Prim.Native.Nat.{ℕ, _+_, _-_, _%_}
 use mathlib.Core.Bool.{Bool, true, false}
 use lib.ListN.{length}
 use lib.Dec.{eqb}
-use Rattle.rules.specs.Rule.{iff}
+use Rattle.rules.specs.Rule.{choose}
 use Rattle.units.specs.Limits.{controlPages, tableEntries}
 use Rattle.units.specs.declared.address.Hpa.{Hpa}
 use Rattle.units.specs.declared.address.Gpa.{Gpa}
@@ -30,15 +30,15 @@ use Rattle.theorems.specs.Checks.{domainOf, kindIs, window, arrived, blo
 -- ---- a place that becomes something; the others are as they were
 
 abbrev place : {A : Type 0} → ℕ → A → (ℕ → A) → ℕ → A
-place n v old k = iff (eqb k n) v (old k)
+place n v old k = choose (eqb k n) v (old k)
 
 -- place i of row n, a row having `places` places
 abbrev within : {A : Type 0} → ℕ → ℕ → ℕ → A → (ℕ → ℕ → A) → ℕ → ℕ → A
-within places n i v old k j = iff (eqb k n) (iff (eqb (j % places) (i % places)) v (old k j)) (old k j)
+within places n i v old k j = choose (eqb k n) (choose (eqb (j % places) (i % places)) v (old k j)) (old k j)
 
 -- every place of row n
 abbrev across : {A : Type 0} → ℕ → A → (ℕ → ℕ → A) → ℕ → ℕ → A
-across n v old k j = iff (eqb k n) v (old k j)
+across n v old k j = choose (eqb k n) v (old k j)
 
 abbrev frameTo : Pfn → Frame → View → View
 frameTo n f s = record { frame = place (n .0) f (s .frame); domain = s .domain; control = s .control; entry = s .entry; used = s .used }
@@ -188,9 +188,9 @@ module _ (base : Hpa) (t : Tables) where
 
   abbrev reclaims : Pfn → View
   reclaims n =
-      iff (kindIs t n TDR)
+      choose (kindIs t n TDR)
       (frameTo n nda (giveBack (domainOf t n .bit) (view t)))
-      (iff (kindIs t n EPT)
+      (choose (kindIs t n EPT)
       (leaves (domainOf t (frameAt (t .frames) n .owner)) n (giveBack (tableOf n) (view t)))
       (leaves (domainOf t (frameAt (t .frames) n .owner)) n (view t)))
 

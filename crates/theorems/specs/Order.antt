@@ -4,7 +4,7 @@ use mathlib.Core.Bool.{Bool, true, false}
 use mathlib.Core.List.{List, [], _∷_}
 use mathlib.Core.Path.{_≡_}
 use lib.Dec.{leb}
-use Rattle.rules.specs.Rule.{iff}
+use Rattle.rules.specs.Rule.{choose}
 
 pub data Reason : Type 0 where
   -- 13: lent sizes, base or a stored number; a lent gauge's marks
@@ -104,7 +104,7 @@ check w b = record { why = w; well = b }
 -- the number of the first check that fails, and 0 where none does
 unfoldable pub firstNo : List Check → ℕ
 firstNo [] = 0
-firstNo (c ∷ cs) = iff (c .well) (firstNo cs) (number (c .why))
+firstNo (c ∷ cs) = choose (c .well) (firstNo cs) (number (c .why))
 
 -- n is the number of a check that fails, and no check before it does
 pub data Fails (n : ℕ) : List Check → Type 0 where
@@ -119,4 +119,4 @@ pub data Passes : List Check → Type 0 where
 -- the checks stand in the paper's order
 unfoldable pub inOrder : ℕ → List Check → Bool
 inOrder p [] = true
-inOrder p (c ∷ cs) = iff (leb p (place (c .why))) (inOrder (place (c .why)) cs) false
+inOrder p (c ∷ cs) = choose (leb p (place (c .why))) (inOrder (place (c .why)) cs) false

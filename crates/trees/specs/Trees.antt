@@ -1,7 +1,7 @@
 -- The calls on what a domain's tree has, a row of "The calls" each. Page calls work at level 0.
 use Prim.Native.Nat.{ℕ}
 use lib.Dec.{eqb}
-use Rattle.rules.specs.Rule.{iff, need, given}
+use Rattle.rules.specs.Rule.{choose, need, given}
 use Rattle.units.specs.Address.{hpaOf}
 use Rattle.units.specs.declared.address.Hpa.{Hpa}
 use Rattle.units.specs.declared.address.Gpa.{Gpa}
@@ -88,7 +88,7 @@ unfoldable pub readentryAt : Hpa → Tables → Found → Gpa → ℕ → Plan
 readentryAt base t x gpa level =
     onWalk (walkOf t x gpa level) (λ l s. Say (answer.Stop 6 l s)) (refuse 14 0) λ b i.
     given (entryAt (t .entries) b i) λ e.
-    iff (eqb (e .state) FREE) (Say (answer.Entry level (e .state) (record { 0 = 0 }))) (
+    choose (eqb (e .state) FREE) (Say (answer.Entry level (e .state) (record { 0 = 0 }))) (
     given (hpaOf base (e .frame)) λ hpa.
     Say (answer.Entry level (e .state) hpa))
 

@@ -4,7 +4,7 @@ use mathlib.Core.List.{List}
 use Prim.Native.Nat.{ℕ, zero, suc, _-_}
 use native.Mathlib.Omega.{arith}
 use lib.Dec.{leb, leb·zero}
-use Rattle.rules.specs.Rule.{iff, given}
+use Rattle.rules.specs.Rule.{choose, given}
 use Rattle.rules.proofs.Steps.{if-true}
 use Rattle.levels.specs.Level.{indexAt}
 use Rattle.units.specs.declared.address.Pfn.{Pfn}
@@ -15,7 +15,7 @@ use Rattle.walk.specs.declared.Walk.{Walk}
 use Rattle.walk.specs.declared.Walk.the-variants.{At, Stopped, Foreign}
 
 pub walk-step : (fs st es : List ℕ) (tdr : Pfn) (gpa : Gpa) (want level block : ℕ) → walkFrom fs st es tdr gpa want level block ≡
-    given (indexAt gpa level) λ i. iff (leb level want) (At block i) (given (entryAt es block i) λ e. through fs st tdr level e (walkFrom fs st es tdr gpa want (level - 1)))
+    given (indexAt gpa level) λ i. choose (leb level want) (At block i) (given (entryAt es block i) λ e. through fs st tdr level e (walkFrom fs st es tdr gpa want (level - 1)))
 unfolding walkFrom given
 walk-step fs st es tdr gpa want zero block = if-true _ (leb·zero want) refl
 walk-step fs st es tdr gpa want (suc l) block = let e : suc l - 1 ≡ l = omega arith in rw e

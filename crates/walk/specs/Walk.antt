@@ -1,10 +1,10 @@
 -- Document 01, "Walk": "begin at the root with level 3. While above the level asked for, the entry must be NL_MAPPED and its frame an EPT
 -- owned by D; go into that table, one level down." Over any number of levels: the caller says at which it begins.
 use Prim.Native.Nat.{ℕ, zero, suc}
-use mathlib.Core.Bool.{Bool, true, false}
+use mathlib.Core.Bool.{Bool, false}
 use mathlib.Core.List.{List}
 use lib.Dec.{eqb, leb}
-use Rattle.rules.specs.Rule.{iff, need, given}
+use Rattle.rules.specs.Rule.{choose, implies, need, given}
 use Rattle.levels.specs.Level.{indexAt}
 use Rattle.units.specs.declared.address.Pfn.{Pfn}
 use Rattle.units.specs.declared.address.Gpa.{Gpa}
@@ -17,7 +17,7 @@ use Rattle.walk.specs.declared.Walk.the-variants.{At, Stopped, Foreign}
 
 -- answer 14: "isn't its entry's type (EPT for states 1 and 4, else REG)"
 unfoldable pub entryType : ℕ → ℕ
-entryType state = iff (eqb state NL-MAPPED) EPT (iff (eqb state NL-BLOCKED) EPT REG)
+entryType state = choose (eqb state NL-MAPPED) EPT (choose (eqb state NL-BLOCKED) EPT REG)
 
 -- answer 14: "a frame followed, blocked, unblocked or removed isn't D's or isn't its entry's type [..] or such an EPT's table is unused"
 unfoldable pub ownFrame : List ℕ → List ℕ → Pfn → Entry → Bool
@@ -26,7 +26,7 @@ ownFrame fs st tdr e =
     given (entryType (e .state)) λ type.
     need (eqb (f .kind) type) false (
     need (eqb (f .owner .0) (tdr .0)) false (
-    need (eqb (f .kind) EPT) true
+    implies (eqb (f .kind) EPT)
     (inUse st (f .number))))
 
 -- one step above the level asked for: the state's 6, then the frame's 14
@@ -41,7 +41,7 @@ module _ (fs st es : List ℕ) (tdr : Pfn) (gpa : Gpa) (want : ℕ) where
   unfoldable pub walkFrom : ℕ → ℕ → Walk
   walkFrom zero block = At block (indexAt gpa zero)
   walkFrom (suc l) block =
-      iff (leb (suc l) want) (At block (indexAt gpa (suc l)))
+      choose (leb (suc l) want) (At block (indexAt gpa (suc l)))
       (given (entryAt es block (indexAt gpa (suc l))) λ e.
       through fs st tdr (suc l) e (walkFrom l))
 

@@ -1,7 +1,7 @@
 use mathlib.Core.Path.{ap, _∙_}
 use native.Mathlib.Omega.{arith}
 use lib.ListN.{drop-of-length-le}
-use Rattle.rules.specs.Rule.{iff}
+use Rattle.rules.specs.Rule.{choose}
 use Rattle.script.specs.Text.{tab, upto}
 use Rattle.numbers.specs.Number.{numberOf}
 use Rattle.script.proofs.Marks.{mark-within, mark-part}
@@ -10,7 +10,7 @@ use Rattle.script.proofs.line.number_at.Statement.{statement}
 use Rattle.script.proofs.line.number_at.Tie as tie
 
 pub number-at-spec : {M : Type 1} → statement M
-unfolding numberOf iff upto
+unfolding numberOf choose upto
 number-at-spec =
     tie.close
     (tie.spec
