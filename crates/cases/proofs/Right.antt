@@ -30,31 +30,32 @@ use Rattle.adds.specs.Adds.{freeFor, septAt, septaddPlan, pagePlan}
 use Rattle.trees.specs.Trees.{trackedFor, blockAt, blockPlan, pageremoveAt, pageremovePlan}
 use Rattle.pages.specs.Pages.{readpagePlan}
 use Rattle.carry.specs.Carry.{afterFrame, afterPage, afterDomain, afterEntry, afterUse, afterRecord, afterBlock, applied, carried}
-use Rattle.host.specs.Calls.{planOf, settled, ruleOf, callOf}
+use Rattle.host.specs.Calls.{Outcome, planOf, settled, ruleOf, callOf}
 use Rattle.keeps.proofs.Ranged.{of-lent}
 use Rattle.keeps.proofs.Fresh.{zeros-lent}
 use Rattle.keeps.proofs.Keeps.{rule-keeps}
 use Rattle.cases.specs.Cases.{base, fresh, run, Case, Right, AllRight, line1, line2, line3, line4, line6, line7, line8, line9, gpaFits1, gpaUnaligned, gpaTooBig, notTracked, trackedNow, marked}
 
--- where 13 has nothing to say, the answer is the plan's
-past-13 : (t : Tables) (g : Gauge) (c : Call) → length (t .frames) ≡ 1024 → lentOk base t ≡ true → g .raise ≡ ratio 768 1024 → g .clear ≡ ratio 512 1024
-    → callOf base t g c .answer ≡ carried t (planOf base t c) .answer
-unfolding callOf ruleOf settled choose
+-- where 13 has nothing to say, the outcome is the rule's
+pub past-13 : (t : Tables) (g : Gauge) (c : Call) → length (t .frames) ≡ 1024 → lentOk base t ≡ true → g .raise ≡ ratio 768 1024 → g .clear ≡ ratio 512 1024
+    → callOf base t g c ≡ ruleOf base t g c
+unfolding callOf choose
 past-13 t g c n l r k = rw (l, r, k, n, program-ok)
 
 -- ---- and it has nothing to say of the tables on the way: no call leaves tables out of range that were in it
-run-ok : (t : Tables) → lentOk base t ≡ true → (cs : List Call) → lentOk base (run t cs) ≡ true
+pub run-ok : (t : Tables) → lentOk base t ≡ true → (cs : List Call) → lentOk base (run t cs) ≡ true
 unfolding run ruleOf settled
 run-ok t ok [] = ok
 run-ok t ok (c ∷ cs) = run-ok (carried t (planOf base t c) .tables) (rule-keeps base t ok reset c) cs
 
-start : lentOk base fresh ≡ true
+pub start : lentOk base fresh ≡ true
 unfolding sizesOk sizesOf tablesOf lengthsOk framesOk baseOk between ones given choose
 start = of-lent base fresh (zeros-lent base fresh refl)
 
 checked : (c : Case) → length (run fresh (c .before) .frames) ≡ 1024
     → valuesOf (carried (run fresh (c .before)) (planOf base (run fresh (c .before)) (c .then)) .answer) ≡ c .says → Right c
-checked c n e = λ g r k. ap valuesOf (past-13 (run fresh (c .before)) g (c .then) n (run-ok fresh start (c .before)) r k) ∙ e
+unfolding ruleOf settled
+checked c n e = λ g r k. ap (λ (o : Outcome). valuesOf (o .answer)) (past-13 (run fresh (c .before)) g (c .then) n (run-ok fresh start (c .before)) r k) ∙ e
 
 -- Every marked case of the paper answers as it says.
 pub marked-right : AllRight marked

@@ -16,7 +16,7 @@ use Rattle.calls.specs.declared.Values.{Values}
 use Rattle.carry.specs.Carry.{carried}
 use Rattle.host.specs.Calls.{planOf, callOf}
 
-abbrev hpa : ℕ → Hpa
+abbrev pub hpa : ℕ → Hpa
 hpa n = record { 0 = n }
 
 abbrev gpa : ℕ → Gpa

@@ -1,1 +1,1 @@
-// The marked cases of document 01, proved from the rules. No code: see specs/ and proofs/.
+// The marked cases of document 01 and its whole run, byte for byte, proved from the rules. No code: see specs/ and proofs/.
