@@ -1,2 +1,3 @@
 pub mod Right
 pub mod Run
+pub mod Witness
