@@ -1,27 +1,31 @@
 -- Each number is given exactly when its check fails and no check before it does, and the checks stand in the paper's order.
-use mathlib.Core.Path.{_≡_, refl, sym, subst, _∙_}
+use mathlib.Core.Path.{_≡_, refl, sym, ap, subst, _∙_}
 use mathlib.Core.Bool.{Bool, true, false}
 use mathlib.Core.List.{List, [], _∷_}
 use mathlib.Core.Logic.{_⊎_, inl, inr}
-use Prim.Native.Nat.{ℕ, _+_, _-_, _≤_}
+use Prim.Native.Nat.{ℕ, _+_, _-_, _≤_, _<_}
 use native.Mathlib.Omega.{arith}
-use lib.Dec.{eqb}
-use borrow.Author.Tests.{eqb-true, eqb-false}
+use lib.Dec.{eqb, ltb}
+use borrow.Author.Tests.{eqb-true, eqb-false, ltb-true, ltb-false}
 use lib.ListN.{length}
-use Rattle.rules.specs.Rule.{choose}
+use Rattle.rules.specs.Rule.{choose, given}
 use Rattle.rules.proofs.Steps.{choose-both}
 use Rattle.units.specs.Limits.{between}
 use Rattle.gauge.specs.Marks.{marksOk}
 use Rattle.gauge.specs.declared.Gauge.{Gauge}
 use Rattle.range.specs.Range.{lentOk}
 use Rattle.calls.specs.Answers.{valuesOf, numberOf}
+use Rattle.calls.specs.declared.Answer.the-variants as answer
 use Rattle.calls.specs.declared.Answer.the-variants.{No}
 use Rattle.plan.specs.declared.edit.Plan.{Plan}
 use Rattle.plan.specs.declared.edit.Plan.the-variants.{Say, Do}
 use Rattle.carry.specs.Carry.{carried}
+use Rattle.units.specs.Address.{hpaOf}
 use Rattle.units.specs.declared.address.Hpa.{Hpa}
-use Rattle.ledger.specs.Codes.{TDR, NL-MAPPED, MAPPED, PENDING, NL-BLOCKED, BLOCKED, PENDING-BLOCKED}
+use Rattle.ledger.specs.Codes.{NDA, TDR, TDCX, FREE, NL-MAPPED, MAPPED, PENDING, NL-BLOCKED, BLOCKED, PENDING-BLOCKED}
 use Rattle.ledger.specs.Tables.{Tables}
+use Rattle.ledger.specs.declared.words.Frame.{Frame}
+use Rattle.ledger.specs.declared.words.Entry.{Entry}
 use Rattle.calls.specs.declared.Call.{Call}
 use Rattle.calls.specs.declared.Call.the-variants as call
 use Rattle.plan.specs.Changes.{gain, lose}
@@ -32,10 +36,10 @@ use Rattle.trees.specs.Trees.{blockAt, blockPlan, unblockAt, unblockPlan, pager
 use Rattle.pages.specs.Pages.{reclaimTdr, reclaimChild, reclaimAt, reclaimPlan, readpagePlan}
 use Rattle.host.specs.Calls.{Outcome, outcome, planOf, settled, ruleOf, callOf}
 use Rattle.theorems.specs.Checks.{kindIs, window, ofTdr, ofChild, reads, checksOf, allChecks}
-use Rattle.keeps.specs.Views.{view}
+use Rattle.keeps.specs.Views.{View, view}
 use Rattle.keeps.proofs.Stores.{newFrame, newDomain, newPage, newEntry, newUse, wipedDomain, wipedPage, wipedEntry}
 use Rattle.keeps.proofs.Ranged.{between-true}
-use Rattle.theorems.specs.Effects.{effectOf}
+use Rattle.theorems.specs.Effects.{effectOf, ownerOf, leadsTo, acceptedOf}
 use Rattle.theorems.specs.Order.{Reason, tables, marks, operand, emptied, frame, Check, check, firstNo, inOrder, Fails, here, later, Passes, none, one}
 use Rattle.theorems.proofs.Firsts.{numberP, row, Numbers, window-first, none-besides, frame-besides, parties-first, built-first, spot-first, owner-first, offered-first, reach-first, tracked-first, walk-first, stock-first, child-first, needed, unless, either, both, named-is, done, page-read, entry-read}
 
@@ -54,30 +58,69 @@ unblocked-code s h =
     choose-both (λ (x : ℕ). x ≡ s - 3) (eqb s NL-BLOCKED) _ _ (λ e. omega (arith, eqb-true s NL-BLOCKED e))
     (λ n. choose-both (λ (x : ℕ). x ≡ s - 3) (eqb s BLOCKED) _ _ (λ e. omega (arith, eqb-true s BLOCKED e)) (λ m. omega (arith, b, eqb-false s NL-BLOCKED n, eqb-false s BLOCKED m)))
 
--- a call's plan answers with the number of its first check that fails, and does its row's effect
-pub plan-first : (base : Hpa) (t : Tables) (c : Call) → Numbers (row (reads c) (view t) (effectOf base t c)) (planOf base t c) (checksOf base t c)
-unfolding planOf reads checksOf effectOf newFrame newDomain newPage newEntry newUse wipedDomain wipedPage wipedEntry createPlan createAt newRecord lifePlan opPlan addcxPlan enlistAt gain septaddPlan freeFor septAt pagePlan pageAt blockPlan blockAt trackPlan unblockPlan unblockAt pageremovePlan pageremoveAt lose septremovePlan septremoveAt readpagePlan readentryPlan readentryAt reclaimPlan reclaimAt reclaimTdr reclaimChild
-plan-first base t (call.Create f k) = window-first _ _ _ _ _ (needed _ _ _ (needed _ _ _ (named-is _ _ (named-is _ _ (needed _ _ _ (stock-first _ _ (named-is _ _ (named-is _ _ (done _ refl)))))))))
-plan-first base t (call.KeyConfig d) = parties-first _ _ _ _ none-besides (needed _ _ _ (named-is _ _ (done _ refl)))
-plan-first base t (call.AddCx d f) = named-is _ _ (parties-first _ _ _ _ (frame-besides _ _ _ _) (needed _ _ _ (needed _ _ _ (needed _ _ _ (needed _ _ _ (named-is _ _ (done _ refl)))))))
-plan-first base t (call.Init d) = built-first _ _ _ _ _ _ none-besides (named-is _ _ (done _ refl))
-plan-first base t (call.SeptAdd d gpa level f) = named-is _ _ (spot-first _ _ _ _ _ _ _ _ _ (frame-besides _ _ _ _) (offered-first _ _ _ _ (reach-first _ _ _ _ _ _ _ λ _. named-is _ _ (stock-first _ _ (needed _ _ _ (named-is _ _ (done _ refl)))))))
-plan-first base t (call.PageAdd d gpa f) = named-is _ _ (spot-first _ _ _ _ _ _ _ _ _ (frame-besides _ _ _ _) (offered-first _ _ _ _ (reach-first _ _ _ _ _ _ _ λ _. needed _ _ _ (named-is _ _ (done _ refl)))))
-plan-first base t (call.Finalize d) = built-first _ _ _ _ _ _ none-besides (named-is _ _ (done _ refl))
-plan-first base t (call.PageAug d gpa f) = named-is _ _ (spot-first _ _ _ _ _ _ _ _ _ (frame-besides _ _ _ _) (offered-first _ _ _ _ (reach-first _ _ _ _ _ _ _ λ _. needed _ _ _ (named-is _ _ (done _ refl)))))
-plan-first base t (call.Block d gpa level) = spot-first _ _ _ _ _ _ _ _ _ none-besides (reach-first _ _ _ _ _ _ _ λ h. needed _ _ _ (named-is _ _ (named-is _ _ (named-is _ _ (done _ (rw (blocked-code _ h) refl))))))
-plan-first base t (call.Track d) = built-first _ _ _ _ _ _ none-besides (needed _ _ _ (named-is _ _ (done _ refl)))
-plan-first base t (call.Unblock d gpa level) = spot-first _ _ _ _ _ _ _ _ _ none-besides (tracked-first frame refl _ _ _ _ _ _ _ λ h. named-is _ _ (done _ (rw (unblocked-code _ h) refl)))
-plan-first base t (call.PageRemove d gpa) = spot-first _ _ _ _ _ _ _ _ _ none-besides (tracked-first frame refl _ _ _ _ _ _ _ λ _. unless _ _ _ (named-is _ _ (done _ refl)))
-plan-first base t (call.SeptRemove d gpa level) = spot-first _ _ _ _ _ _ _ _ _ none-besides (tracked-first emptied refl _ _ _ _ _ _ _ λ _. named-is _ _ (needed _ _ _ (unless _ _ _ (named-is _ _ (done _ refl)))))
-plan-first base t (call.FlushDone d) = parties-first _ _ _ _ none-besides (needed _ _ _ (named-is _ _ (done _ refl)))
-plan-first base t (call.KeyFree d) = parties-first _ _ _ _ none-besides (needed _ _ _ (named-is _ _ (done _ refl)))
+-- types 0 and 1 have no owner, the others do
+module _ (base : Hpa) (t : Tables) (f : Frame) where
+  no-owner : ltb (f .kind) TDCX ≡ true → ownerOf base t f ≡ record { 0 = 0 }
+  unfolding ownerOf
+  no-owner e =
+      let l : f .kind < TDCX = ltb-true (f .kind) TDCX e in
+      choose-both (λ (x : Hpa). x ≡ record { 0 = 0 }) (eqb (f .kind) NDA) _ _ (λ _. refl)
+      (λ n. choose-both (λ (x : Hpa). x ≡ record { 0 = 0 }) (eqb (f .kind) TDR) _ _ (λ _. refl) (λ m. absurd (omega (arith, l, eqb-false (f .kind) NDA n, eqb-false (f .kind) TDR m))))
+
+  an-owner : ltb (f .kind) TDCX ≡ false → ownerOf base t f ≡ hpaOf base (f .owner)
+  unfolding ownerOf
+  an-owner e =
+      let l : TDCX ≤ f .kind = ltb-false (f .kind) TDCX e in
+      choose-both (λ (x : Hpa). x ≡ hpaOf base (f .owner)) (eqb (f .kind) NDA) _ _ (λ n. absurd (omega (arith, l, eqb-true (f .kind) NDA n)))
+      (λ _. choose-both (λ (x : Hpa). x ≡ hpaOf base (f .owner)) (eqb (f .kind) TDR) _ _ (λ m. absurd (omega (arith, l, eqb-true (f .kind) TDR m))) (λ _. refl))
+
+  page-said : {s : View}
+      → Numbers (row true s s (answer.Page (f .kind) (ownerOf base t f)))
+      (choose (ltb (f .kind) TDCX) (Say (answer.Page (f .kind) (record { 0 = 0 }))) (given (hpaOf base (f .owner)) λ o. Say (answer.Page (f .kind) o))) []
+  page-said =
+      both _ (λ e. page-read _ _ (ap (answer.Page (f .kind)) (sym (no-owner e))))
+      (λ e. named-is _ _ (page-read _ _ (ap (answer.Page (f .kind)) (sym (an-owner e)))))
+
+module _ (base : Hpa) (t : Tables) (level : ℕ) (e : Entry) where
+  leads-nowhere : eqb (e .state) FREE ≡ true → leadsTo base t e ≡ record { 0 = 0 }
+  unfolding leadsTo choose
+  leads-nowhere q = rw q refl
+
+  leads-on : eqb (e .state) FREE ≡ false → leadsTo base t e ≡ hpaOf base (e .frame)
+  unfolding leadsTo choose
+  leads-on q = rw q refl
+
+  entry-said : {s : View}
+      → Numbers (row true s s (answer.Entry level (e .state) (leadsTo base t e)))
+      (choose (eqb (e .state) FREE) (Say (answer.Entry level (e .state) (record { 0 = 0 }))) (given (hpaOf base (e .frame)) λ h. Say (answer.Entry level (e .state) h))) []
+  entry-said =
+      both _ (λ q. entry-read _ _ _ (ap (answer.Entry level (e .state)) (sym (leads-nowhere q))))
+      (λ q. named-is _ _ (entry-read _ _ _ (ap (answer.Entry level (e .state)) (sym (leads-on q)))))
+
+-- a call's plan answers with the number of its first check that fails, and where it accepts it does and answers as its row says
+pub plan-first : (base : Hpa) (t : Tables) (c : Call) → Numbers (row (reads c) (view t) (effectOf base t c) (acceptedOf base t c)) (planOf base t c) (checksOf base t c)
+unfolding planOf reads checksOf effectOf acceptedOf newFrame newDomain newPage newEntry newUse wipedDomain wipedPage wipedEntry createPlan createAt newRecord lifePlan opPlan addcxPlan enlistAt gain septaddPlan freeFor septAt pagePlan pageAt blockPlan blockAt trackPlan unblockPlan unblockAt pageremovePlan pageremoveAt lose septremovePlan septremoveAt readpagePlan readentryPlan readentryAt reclaimPlan reclaimAt reclaimTdr reclaimChild
+plan-first base t (call.Create f k) = window-first _ _ _ _ _ (needed _ _ _ (needed _ _ _ (named-is _ _ (named-is _ _ (needed _ _ _ (stock-first _ _ (named-is _ _ (named-is _ _ (done _ refl refl)))))))))
+plan-first base t (call.KeyConfig d) = parties-first _ _ _ _ none-besides (needed _ _ _ (named-is _ _ (done _ refl refl)))
+plan-first base t (call.AddCx d f) = named-is _ _ (parties-first _ _ _ _ (frame-besides _ _ _ _) (needed _ _ _ (needed _ _ _ (needed _ _ _ (needed _ _ _ (named-is _ _ (done _ refl refl)))))))
+plan-first base t (call.Init d) = built-first _ _ _ _ _ _ none-besides (named-is _ _ (done _ refl refl))
+plan-first base t (call.SeptAdd d gpa level f) = named-is _ _ (spot-first _ _ _ _ _ _ _ _ _ (frame-besides _ _ _ _) (offered-first _ _ _ _ (reach-first _ _ _ _ _ _ _ λ _. named-is _ _ (stock-first _ _ (needed _ _ _ (named-is _ _ (done _ refl refl)))))))
+plan-first base t (call.PageAdd d gpa f) = named-is _ _ (spot-first _ _ _ _ _ _ _ _ _ (frame-besides _ _ _ _) (offered-first _ _ _ _ (reach-first _ _ _ _ _ _ _ λ _. needed _ _ _ (named-is _ _ (done _ refl refl)))))
+plan-first base t (call.Finalize d) = built-first _ _ _ _ _ _ none-besides (named-is _ _ (done _ refl refl))
+plan-first base t (call.PageAug d gpa f) = named-is _ _ (spot-first _ _ _ _ _ _ _ _ _ (frame-besides _ _ _ _) (offered-first _ _ _ _ (reach-first _ _ _ _ _ _ _ λ _. needed _ _ _ (named-is _ _ (done _ refl refl)))))
+plan-first base t (call.Block d gpa level) = spot-first _ _ _ _ _ _ _ _ _ none-besides (reach-first _ _ _ _ _ _ _ λ h. needed _ _ _ (named-is _ _ (named-is _ _ (named-is _ _ (done _ (rw (blocked-code _ h) refl) refl)))))
+plan-first base t (call.Track d) = built-first _ _ _ _ _ _ none-besides (needed _ _ _ (named-is _ _ (done _ refl refl)))
+plan-first base t (call.Unblock d gpa level) = spot-first _ _ _ _ _ _ _ _ _ none-besides (tracked-first frame refl _ _ _ _ _ _ _ λ h. named-is _ _ (done _ (rw (unblocked-code _ h) refl) refl))
+plan-first base t (call.PageRemove d gpa) = spot-first _ _ _ _ _ _ _ _ _ none-besides (tracked-first frame refl _ _ _ _ _ _ _ λ _. unless _ _ _ (named-is _ _ (done _ refl refl)))
+plan-first base t (call.SeptRemove d gpa level) = spot-first _ _ _ _ _ _ _ _ _ none-besides (tracked-first emptied refl _ _ _ _ _ _ _ λ _. named-is _ _ (needed _ _ _ (unless _ _ _ (named-is _ _ (done _ refl refl)))))
+plan-first base t (call.FlushDone d) = parties-first _ _ _ _ none-besides (needed _ _ _ (named-is _ _ (done _ refl refl)))
+plan-first base t (call.KeyFree d) = parties-first _ _ _ _ none-besides (needed _ _ _ (named-is _ _ (done _ refl refl)))
 plan-first base t (call.Reclaim f) =
     window-first _ _ _ _ _ (named-is _ _ (unless _ _ _ (either _
-    (owner-first _ _ _ (needed _ _ _ (needed _ _ _ (done _ refl))))
-    (owner-first _ _ _ (needed _ _ _ (child-first _ _ _ (unless _ _ _ (named-is _ _ (done _ refl))) (unless _ _ _ (named-is _ _ (done _ refl)))))))))
-plan-first base t (call.ReadPage f) = window-first _ _ _ _ _ (named-is _ _ (both _ (page-read _ _) (named-is _ _ (page-read _ _))))
-plan-first base t (call.ReadEntry d gpa level) = spot-first _ _ _ _ _ _ _ _ _ none-besides (walk-first _ _ (named-is _ _ (both _ (entry-read _ _ _) (named-is _ _ (entry-read _ _ _)))))
+    (owner-first _ _ _ (needed _ _ _ (needed _ _ _ (done _ refl refl))))
+    (owner-first _ _ _ (needed _ _ _ (child-first _ _ _ (unless _ _ _ (named-is _ _ (done _ refl refl))) (unless _ _ _ (named-is _ _ (done _ refl refl)))))))))
+plan-first base t (call.ReadPage f) = window-first _ _ _ _ _ (named-is _ _ (page-said base t _))
+plan-first base t (call.ReadEntry d gpa level) = spot-first _ _ _ _ _ _ _ _ _ none-besides (walk-first _ _ (named-is _ _ (entry-said base t level _)))
 
 carried-number : (g : Gauge) (t : Tables) (p : Plan) → numberOf (settled g (carried t p) .answer) ≡ numberP p
 unfolding settled carried numberP valuesOf

@@ -76,19 +76,20 @@ edited e s = record {
   used = newUse (e .stock) (s .used);
 }
 
--- of a call's row: whether it reads, the tables before it, and its effect
+-- of a call's row: whether it reads, the tables before it, its effect, and the answer where it is accepted
 pub record Row : Type 0 where
   pub reads : Bool
   pub before : View
   pub effect : View
+  pub answer : Answer
 
-abbrev pub row : Bool → View → View → Row
-row r s v = record { reads = r; before = s; effect = v }
+abbrev pub row : Bool → View → View → Answer → Row
+row r s v a = record { reads = r; before = s; effect = v; answer = a }
 
--- a plan that accepts does the row's effect
+-- a plan that accepts does the row's effect, and answers as the row says
 unfoldable pub Does : Row → Plan → Type 0
-Does r (Say a) = numberOf a ≡ 0 → r .before ≡ r .effect
-Does r (Do e) = edited e (r .before) ≡ r .effect
+Does r (Say a) = numberOf a ≡ 0 → (r .before ≡ r .effect) × (a ≡ r .answer)
+Does r (Do e) = (edited e (r .before) ≡ r .effect) × (answer.Done ≡ r .answer)
 
 -- a plan's number is that of the first check that fails, it reads out what it may, and it does the row's effect
 pub record Numbers (r : Row) (p : Plan) (cs : List Check) : Type 0 where
@@ -123,17 +124,17 @@ positive frame = refl
 positive count = refl
 positive unreadable = refl
 
-pub done : {r : Row} (e : Edit) → edited e (r .before) ≡ r .effect → Numbers r (Do e) []
+pub done : {r : Row} (e : Edit) → edited e (r .before) ≡ r .effect → answer.Done ≡ r .answer → Numbers r (Do e) []
 unfolding numberP firstNo TellsP Tells Does
-done e q = record { is = refl; tells = tt; does = q }
+done e q a = record { is = refl; tells = tt; does = (q, a) }
 
-pub page-read : {s : View} (k : ℕ) (o : Hpa) → Numbers (row true s s) (Say (answer.Page k o)) []
+pub page-read : {s : View} {a : Answer} (k : ℕ) (o : Hpa) → answer.Page k o ≡ a → Numbers (row true s s a) (Say (answer.Page k o)) []
 unfolding numberP firstNo valuesOf TellsP Tells Does
-page-read k o = record { is = refl; tells = refl; does = λ _. refl }
+page-read k o e = record { is = refl; tells = refl; does = λ _. (refl, e) }
 
-pub entry-read : {s : View} (l i : ℕ) (h : Hpa) → Numbers (row true s s) (Say (answer.Entry l i h)) []
+pub entry-read : {s : View} {a : Answer} (l i : ℕ) (h : Hpa) → answer.Entry l i h ≡ a → Numbers (row true s s a) (Say (answer.Entry l i h)) []
 unfolding numberP firstNo valuesOf TellsP Tells Does
-entry-read l i h = record { is = refl; tells = refl; does = λ _. refl }
+entry-read l i h e = record { is = refl; tells = refl; does = λ _. (refl, e) }
 
 -- a check, else the refusal of its reason
 pub needed : {r : Row} {p : Plan} {cs : List Check} (w : Reason) (b : Bool) (k : ℕ) → Numbers r p cs → Numbers r (choose b p (refuse (number w) k)) (check w b ∷ cs)
@@ -152,20 +153,20 @@ unfolding given
 named-is v k e = record { is = e .is; tells = e .tells; does = e .does }
 
 -- two ways, each with checks and an effect of its own, or both with the same
-pub either : {r : Bool} {s v w : View} {p q : Plan} {cs ds : List Check} (b : Bool) → Numbers (row r s v) p cs → Numbers (row r s w) q ds
-    → Numbers (row r s (choose b v w)) (choose b p q) (choose b cs ds)
+pub either : {r : Bool} {s v w : View} {a : Answer} {p q : Plan} {cs ds : List Check} (b : Bool) → Numbers (row r s v a) p cs → Numbers (row r s w a) q ds
+    → Numbers (row r s (choose b v w) a) (choose b p q) (choose b cs ds)
 unfolding choose
 either true e f = e
 either false e f = f
 
-pub both : {r : Row} {p q : Plan} {cs : List Check} (b : Bool) → Numbers r p cs → Numbers r q cs → Numbers r (choose b p q) cs
+pub both : {r : Row} {p q : Plan} {cs : List Check} (b : Bool) → (b ≡ true → Numbers r p cs) → (b ≡ false → Numbers r q cs) → Numbers r (choose b p q) cs
 unfolding choose
-both true e f = e
-both false e f = f
+both true e f = e refl
+both false e f = f refl
 
 -- a check on one way alone, which must not fail there
-pub child-first : {r : Bool} {s v w : View} {p q : Plan} {cs : List Check} (a b : Bool) (k : ℕ) → Numbers (row r s v) p cs → Numbers (row r s w) q cs
-    → Numbers (row r s (choose a v w)) (choose a (choose b p (refuse 14 k)) q) (check count (choose a b true) ∷ cs)
+pub child-first : {r : Bool} {s v w : View} {y : Answer} {p q : Plan} {cs : List Check} (a b : Bool) (k : ℕ) → Numbers (row r s v y) p cs → Numbers (row r s w y) q cs
+    → Numbers (row r s (choose a v w) y) (choose a (choose b p (refuse 14 k)) q) (check count (choose a b true) ∷ cs)
 unfolding numberP firstNo choose valuesOf TellsP Tells Does
 child-first true true k e f = record { is = e .is; tells = e .tells; does = e .does }
 child-first true false k e f = record { is = refl; tells = tt; does = never refl }
@@ -306,7 +307,7 @@ by-reach : {r : Row} {cs : List Check} (t : Tables) (w : Walk) (level least most
     (reach.Not (answer.Stop 7 level (entryAt (t .entries) b i .state))))
     Say k)
     (walked w (check entry (between least (arrived t w .state) most) ∷ cs))
-unfolding onWalk goesOn follows arrived block index numberP firstNo choose valuesOf onReach TellsP Tells Does
+unfolding onWalk goesOn follows block index numberP firstNo choose valuesOf onReach TellsP Tells Does
 by-reach t (walk.Stopped l s) level least most k e = record { is = refl; tells = inl refl; does = never refl }
 by-reach t (walk.Foreign) level least most k e = record { is = refl; tells = tt; does = never refl }
 by-reach t (walk.At b i) level least most k e = let h = by-entry (between least (entryAt (t .entries) b i .state) most) level b i (entryAt (t .entries) b i) k e in record { is = h .is; tells = h .tells; does = h .does }

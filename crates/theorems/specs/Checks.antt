@@ -70,8 +70,8 @@ block w = onWalk w (λ l s. 0) 0 λ b i. b
 unfoldable pub index : Walk → ℕ
 index w = onWalk w (λ l s. 0) 0 λ b i. i
 
-unfoldable pub arrived : Tables → Walk → Entry
-arrived t w = onWalk w (λ l s. entryAt (t .entries) 0 0) (entryAt (t .entries) 0 0) (entryAt (t .entries))
+abbrev pub arrived : Tables → Walk → Entry
+arrived t w = entryAt (t .entries) (block w) (index w)
 
 -- ---- checks that several rows share, and what comes after them
 abbrev pub spot : Hpa → Tables → Hpa → Gpa → ℕ → ℕ → List Check → List Check

@@ -1,12 +1,13 @@
--- The column "Effect" of "The calls", a row a call: all that stands in the lent tables after an accepted call, read number by number. A row names
--- the places that the call writes and what it writes there; every other place reads as before. It is said apart from the rules, in the paper's
--- words and codes: `effects` (proofs/Effects) is the theorem that each accepted call does its row and nothing else.
+-- The column "Effect" of "The calls", a row a call: what an accepted call answers, and all that stands in the lent tables after it, read number by
+-- number. A row names the places that the call writes and what it writes there; every other place reads as before. It is said apart from the
+-- rules, in the paper's words and codes: `effects` (proofs/Effects) is the theorem that each accepted call does its row and nothing else.
 use Prim.Native.Nat.{ℕ, _+_, _-_, _%_}
 use mathlib.Core.Bool.{Bool, true, false}
 use lib.ListN.{length}
 use lib.Dec.{eqb}
 use Rattle.rules.specs.Rule.{choose}
 use Rattle.units.specs.Limits.{controlPages, tableEntries}
+use Rattle.units.specs.Address.{hpaOf}
 use Rattle.units.specs.declared.address.Hpa.{Hpa}
 use Rattle.units.specs.declared.address.Gpa.{Gpa}
 use Rattle.units.specs.declared.address.Pfn.{Pfn}
@@ -19,6 +20,8 @@ use Rattle.ledger.specs.declared.words.Frame.{Frame}
 use Rattle.ledger.specs.declared.words.Domain.{Domain}
 use Rattle.ledger.specs.declared.words.Entry.{Entry}
 use Rattle.walk.specs.declared.Walk.{Walk}
+use Rattle.calls.specs.declared.Answer.{Answer}
+use Rattle.calls.specs.declared.Answer.the-variants as answer
 use Rattle.calls.specs.declared.Call.{Call}
 use Rattle.calls.specs.declared.Call.the-variants as call
 use Rattle.plan.specs.Lookup.{rootIn}
@@ -225,3 +228,35 @@ module _ (base : Hpa) (t : Tables) where
   effectOf (call.Reclaim f) = reclaims (window base t f)
   effectOf (call.ReadPage f) = view t
   effectOf (call.ReadEntry d gpa level) = view t
+
+  -- ---- the answer of an accepted call: the two that read say what they read
+  abbrev nowhere : Hpa
+  nowhere = record { 0 = 0 }
+
+  -- "owner hpa (0 if none)": NDA and TDR have no owner
+  unfoldable pub ownerOf : Frame → Hpa
+  ownerOf f = choose (eqb (f .kind) NDA) nowhere (choose (eqb (f .kind) TDR) nowhere (hpaOf base (f .owner)))
+
+  -- "hpa (0 if FREE)"
+  unfoldable pub leadsTo : Entry → Hpa
+  leadsTo e = choose (eqb (e .state) FREE) nowhere (hpaOf base (e .frame))
+
+  unfoldable pub acceptedOf : Call → Answer
+  acceptedOf (call.Create f key) = answer.Done
+  acceptedOf (call.KeyConfig d) = answer.Done
+  acceptedOf (call.AddCx d f) = answer.Done
+  acceptedOf (call.Init d) = answer.Done
+  acceptedOf (call.SeptAdd d gpa level f) = answer.Done
+  acceptedOf (call.PageAdd d gpa f) = answer.Done
+  acceptedOf (call.Finalize d) = answer.Done
+  acceptedOf (call.PageAug d gpa f) = answer.Done
+  acceptedOf (call.Block d gpa level) = answer.Done
+  acceptedOf (call.Track d) = answer.Done
+  acceptedOf (call.Unblock d gpa level) = answer.Done
+  acceptedOf (call.PageRemove d gpa) = answer.Done
+  acceptedOf (call.SeptRemove d gpa level) = answer.Done
+  acceptedOf (call.FlushDone d) = answer.Done
+  acceptedOf (call.KeyFree d) = answer.Done
+  acceptedOf (call.Reclaim f) = answer.Done
+  acceptedOf (call.ReadPage f) = answer.Page (frameAt (t .frames) (window base t f) .kind) (ownerOf (frameAt (t .frames) (window base t f)))
+  acceptedOf (call.ReadEntry d gpa level) = answer.Entry level (arrived t (walk d gpa level) .state) (leadsTo (arrived t (walk d gpa level)))
