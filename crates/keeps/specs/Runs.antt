@@ -77,7 +77,9 @@ foldOf base t g (c ∷ cs) = given (callOf base t g c) λ o. andThen (o .answer)
 -- one rule after the other, with no answer 13
 unfoldable pub runFrom : Hpa → Tables → Gauge → ℕ → List Call → Ran
 runFrom base t g used [] = ran [] t g
-runFrom base t g used (c ∷ cs) = given (ruleWith base t g used c) λ s. andThen (s .outcome .answer) (runFrom base (s .outcome .tables) (s .outcome .gauge) (s .used) cs)
+runFrom base t g used (c ∷ cs) =
+    given (ruleWith base t g used c) λ s.
+    andThen (s .outcome .answer) (runFrom base (s .outcome .tables) (s .outcome .gauge) (s .used) cs)
 
 -- each call answered 13
 unfoldable pub allRefused : List Call → List Answer

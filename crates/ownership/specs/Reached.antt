@@ -94,7 +94,8 @@ leftBy base t c o l = choose (eqb (numberOf (o .answer)) 0) (left base t (roleOf
 -- them": any calls, accepted or refused, and any settings of the marks, each with any gauge
 pub data Reached (base : Hpa) : Tables → Lists → Type 0 where
   fresh : (t : Tables) (g : Gauge) → Accepted (resetOf base t g) → Reached base (resetOf base t g .tables) (λ e. [])
-  called : {t : Tables} {l : Lists} → Reached base t l → (g : Gauge) (c : Call) → Reached base (callOf base t g c .tables) (leftBy base t c (callOf base t g c) l)
+  called : {t : Tables} {l : Lists} → Reached base t l → (g : Gauge) (c : Call)
+      → Reached base (callOf base t g c .tables) (leftBy base t c (callOf base t g c) l)
   marked : {t : Tables} {l : Lists} → Reached base t l → (g : Gauge) (raise clear : Float) → Reached base (marksOf base t g raise clear .tables) l
 
 -- ---- the demand, of tables t and the lists l of what domains had when their keys were freed, with any gauge
@@ -105,7 +106,8 @@ pub record Demand3 (base : Hpa) (t : Tables) (l : Lists) : Type 0 where
   pub freed : (d : ℕ) → kind (view t) d ≡ TDR → life (view t) (number (view t) d) ≡ TEARDOWN → Owns (view t) d (l d)
   -- an accepted call on one domain leaves every other domain's record, control pages, frames and tree alone. (A call that may touch several
   -- domains' records will be excepted here.)
-  pub alone : (g : Gauge) (c : Call) → Accepted (callOf base t g c) → (e : ℕ) → kind (view t) e ≡ TDR → (subject base t (roleOf c) ≡ At (frame e) → ⊥)
+  pub alone : (g : Gauge) (c : Call) → Accepted (callOf base t g c) → (e : ℕ) → kind (view t) e ≡ TDR
+      → (subject base t (roleOf c) ≡ At (frame e) → ⊥)
       → Untouched (extent t) (view t) (view (callOf base t g c .tables)) e
   -- no call is answered 14; none is answered 13 whose gauge has its marks in rule; and no setting of the marks is
   pub never14 : (g : Gauge) (c : Call) → numberOf (callOf base t g c .answer) ≡ 14 → ⊥

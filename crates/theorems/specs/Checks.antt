@@ -16,7 +16,8 @@ use Rattle.gauge.specs.Marks.{marksOk}
 use Rattle.gauge.specs.declared.Gauge.{Gauge}
 use Rattle.stock.specs.Bits.{inUse, lowestUnused, onLowest}
 use Rattle.stock.specs.declared.bits.Lowest.{Lowest}
-use Rattle.ledger.specs.Codes.{NDA, TDR, EPT, ASSIGNED, CONFIGURED, BLOCKED-LIFE, TEARDOWN, UNINITIALIZED, INITIALIZED, RUNNABLE, FREE, NL-MAPPED, PENDING, NL-BLOCKED, BLOCKED, PENDING-BLOCKED}
+use Rattle.ledger.specs.Codes.{NDA, TDR, EPT, FREE, NL-MAPPED, PENDING, NL-BLOCKED, BLOCKED, PENDING-BLOCKED}
+use Rattle.ledger.specs.Codes.{ASSIGNED, CONFIGURED, BLOCKED-LIFE, TEARDOWN, UNINITIALIZED, INITIALIZED, RUNNABLE}
 use Rattle.range.specs.Range.{lentOk}
 use Rattle.ledger.specs.Sizes.{tablesOf, bitsOf}
 use Rattle.ledger.specs.Tables.{Tables, frameAt, domainAt, entryAt}
@@ -29,7 +30,8 @@ use Rattle.plan.specs.Lookup.{onPlace, isNda, bitIn, rootIn}
 use Rattle.domains.specs.Domains.{keyUnused}
 use Rattle.plan.specs.Entries.{walkOf, isTracked, tableEmpty}
 use Rattle.plan.specs.declared.lookup.Found.{Found}
-use Rattle.theorems.specs.Order.{Reason, tables, marks, operand, domain, record′, lifecycle, pages, opState, offered, key, stopped, foreign, entry, untracked, emptied, remain, stock, epoch, frame, count, Check, check}
+use Rattle.theorems.specs.Order.{Reason, tables, marks, operand, domain, record′, lifecycle, pages, opState, offered, key, stopped, foreign}
+use Rattle.theorems.specs.Order.{entry, untracked, emptied, remain, stock, epoch, frame, count, Check, check}
 
 -- ---- the words of the table
 -- an hpa is one of the window's, and the frame that it then names
@@ -53,7 +55,10 @@ domainOf t n = record {
 abbrev pub kindIs : Tables → Pfn → ℕ → Bool
 kindIs t n k = eqb (frameAt (t .frames) n .kind) k
 
--- the bit that a look through the stock found
+-- whether a look through the stock found a bit, and which
+abbrev pub found : Lowest → Bool
+found l = onLowest l false λ b. true
+
 unfoldable pub taken : Lowest → ℕ
 taken l = onLowest l 0 λ b. b
 
@@ -125,6 +130,13 @@ module _ (base : Hpa) (t : Tables) where
   abbrev pub domainAtHpa : Hpa → Found
   domainAtHpa d = domainOf t (window d)
 
+  -- the in-use bits of the tables stand below these, and those of the records between them
+  abbrev pub firstBit : ℕ
+  firstBit = tablesOf (length (t .domains)) (length (t .entries))
+
+  abbrev pub endBit : ℕ
+  endBit = bitsOf (length (t .domains)) (length (t .entries))
+
   -- reclaim of a TDR, and of another frame: "an owner's or a TDR F's 14, 3, 9, an EPT's table's or the count's 14"
   abbrev pub inTeardown : Pfn → List Check → List Check
   inTeardown n rest =
@@ -147,8 +159,8 @@ module _ (base : Hpa) (t : Tables) where
       inside f (
       check operand (keyOk k)
       ∷ check offered (isNda (t .frames) (window f))
-      ∷ check key (keyUnused (t .domains) (t .stock) (tablesOf (length (t .domains)) (length (t .entries))) (bitsOf (length (t .domains)) (length (t .entries))) k)
-      ∷ check stock (onLowest (lowestUnused (t .stock) (tablesOf (length (t .domains)) (length (t .entries))) (bitsOf (length (t .domains)) (length (t .entries)))) false λ b. true)
+      ∷ check key (keyUnused (t .domains) (t .stock) firstBit endBit k)
+      ∷ check stock (found (lowestUnused (t .stock) firstBit endBit))
       ∷ [])
   checksOf (call.KeyConfig d) = inside d (isDomain t (window d) (check lifecycle (between ASSIGNED (domainAtHpa d .dom .life) ASSIGNED) ∷ []))
   checksOf (call.AddCx d f) =
@@ -166,7 +178,7 @@ module _ (base : Hpa) (t : Tables) where
       live t (window d) (
       check offered (isNda (t .frames) (window f))
       ∷ reached t (domainAtHpa d) gpa level FREE FREE λ e.
-      check stock (onLowest (lowestUnused (t .stock) 0 (tablesOf (length (t .domains)) (length (t .entries)))) false λ b. true)
+      check stock (found (lowestUnused (t .stock) 0 firstBit))
       ∷ room t (domainAtHpa d))))
   checksOf (call.PageAdd d gpa f) =
       spot base t d gpa 0 0 (

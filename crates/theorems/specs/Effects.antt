@@ -3,7 +3,6 @@
 -- rules, in the paper's words and codes: `effects` (proofs/Effects) is the theorem that each accepted call does its row and nothing else.
 use Prim.Native.Nat.{ℕ, _+_, _-_, _%_}
 use mathlib.Core.Bool.{Bool, true, false}
-use lib.ListN.{length}
 use lib.Dec.{eqb}
 use Rattle.rules.specs.Rule.{choose}
 use Rattle.units.specs.Limits.{controlPages, tableEntries}
@@ -14,7 +13,6 @@ use Rattle.units.specs.declared.address.Pfn.{Pfn}
 use Rattle.stock.specs.Bits.{lowestUnused}
 use Rattle.ledger.specs.Codes.{NDA, TDR, TDCX, EPT, REG, FREE, NL-MAPPED, MAPPED, PENDING}
 use Rattle.ledger.specs.Codes.{ASSIGNED, CONFIGURED, BLOCKED-LIFE, TEARDOWN, UNINITIALIZED, INITIALIZED, RUNNABLE}
-use Rattle.ledger.specs.Sizes.{tablesOf, bitsOf}
 use Rattle.ledger.specs.Tables.{Tables, frameAt}
 use Rattle.ledger.specs.declared.words.Frame.{Frame}
 use Rattle.ledger.specs.declared.words.Domain.{Domain}
@@ -28,7 +26,7 @@ use Rattle.plan.specs.Lookup.{rootIn}
 use Rattle.plan.specs.Entries.{walkOf}
 use Rattle.plan.specs.declared.lookup.Found.{Found}
 use Rattle.keeps.specs.Views.{View, view}
-use Rattle.theorems.specs.Checks.{domainOf, kindIs, window, arrived, block, index, taken}
+use Rattle.theorems.specs.Checks.{domainOf, kindIs, window, firstBit, endBit, arrived, block, index, taken}
 
 -- ---- a place that becomes something; the others are as they were
 
@@ -154,14 +152,11 @@ module _ (base : Hpa) (t : Tables) where
   abbrev creates : Pfn → ℕ → ℕ → ℕ → View
   creates f key bit r = frameTo f (frame TDR none r) (recordTo r (newDomain key) (takeRecord r bit (rootIn t r) (view t)))
 
-  abbrev firstBit : ℕ
-  firstBit = tablesOf (length (t .domains)) (length (t .entries))
-
   abbrev newBit : ℕ
-  newBit = taken (lowestUnused (t .stock) firstBit (bitsOf (length (t .domains)) (length (t .entries))))
+  newBit = taken (lowestUnused (t .stock) (firstBit base t) (endBit base t))
 
   abbrev newTable : ℕ
-  newTable = taken (lowestUnused (t .stock) 0 firstBit)
+  newTable = taken (lowestUnused (t .stock) 0 (firstBit base t))
 
   -- F becomes TDCX, listed as the next control page
   abbrev enlists : Found → Pfn → View
@@ -198,7 +193,7 @@ module _ (base : Hpa) (t : Tables) where
       (leaves (domainOf t (frameAt (t .frames) n .owner)) n (view t)))
 
   unfoldable pub effectOf : Call → View
-  effectOf (call.Create f key) = creates (window base t f) key newBit (newBit - firstBit)
+  effectOf (call.Create f key) = creates (window base t f) key newBit (newBit - firstBit base t)
   -- keys configured
   effectOf (call.KeyConfig d) = domain d (life CONFIGURED)
   effectOf (call.AddCx d f) = enlists (at d) (window base t f)
