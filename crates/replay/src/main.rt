@@ -1,11 +1,11 @@
 // Replays a script: calls on standard input, a line each; their answers on standard output. Only reading, writing and the loops over them
 // stand here: what a byte does and what a line answers is proved in the crates feed and session.
-use calls::Ask;
-use feed::Feed;
-use feed::Turn;
-use gauge::Gauge;
-use ledger::count;
-use units::address::Hpa;
+use base_calls::Ask;
+use base_units::address::Hpa;
+use book_gauge::Gauge;
+use book_ledger::count;
+use door_feed::Feed;
+use door_feed::Turn;
 
 const STDIN: i32 = 0;
 
@@ -67,10 +67,10 @@ fn replay(
 
 fn start(frames: &mut [u64], domains: &mut [u64], stock: &mut [u64], entries: &mut [u32]) -> Gauge {
     let base = Hpa(BASE_BYTES);
-    let g = gauge::fresh_gauge();
-    let fresh = asks::answer_ask(base, frames, domains, stock, entries, g, Ask::Reset);
+    let g = book_gauge::fresh_gauge();
+    let fresh = door_asks::answer_ask(base, frames, domains, stock, entries, g, Ask::Reset);
     let marks = Ask::Marks(0.75, 0.5);
-    let set = asks::answer_ask(base, frames, domains, stock, entries, fresh.gauge, marks);
+    let set = door_asks::answer_ask(base, frames, domains, stock, entries, fresh.gauge, marks);
     set.gauge
 }
 
@@ -89,11 +89,11 @@ fn run_script(
 }
 
 fn begin(out: &mut [u8], gauge: Gauge) -> State {
-    let n = answers::write_first(out, FRAMES);
+    let n = door_answers::write_first(out, FRAMES);
     State {
         gauge,
         feed: Feed { lines: 0, held: 0 },
-        pending: feed::within(n, out),
+        pending: door_feed::within(n, out),
         stopped: false,
         given_up: false,
     }
@@ -106,8 +106,8 @@ fn finish(frames: &[u64], out: &mut [u8], s: State) {
         return;
     }
     let g = done.gauge;
-    let last = answers::write_last(out, count::used_frames(frames), g.lamp);
-    let n = feed::within(last, out);
+    let last = door_answers::write_last(out, count::used_frames(frames), g.lamp);
+    let n = door_feed::within(last, out);
     let closed = with_pending(done, n);
     flush(out, closed);
 }
@@ -117,7 +117,7 @@ fn flush(out: &[u8], s: State) -> State {
     if s.given_up {
         return s;
     }
-    let n = feed::within(s.pending, out);
+    let n = door_feed::within(s.pending, out);
     if io::write_all(STDOUT, &out[..n]) {
         return with_pending(s, 0);
     }
@@ -145,7 +145,7 @@ fn give_up(old: State) -> State {
 
 // Room for one answer more.
 fn with_room(out: &[u8], s: State) -> State {
-    let n = feed::within(s.pending, out);
+    let n = door_feed::within(s.pending, out);
     if out.len() - n < ANSWER_BYTES {
         return flush(out, s);
     }
@@ -166,10 +166,10 @@ fn run_line(
     let s = with_room(out, old);
     let gauge = s.gauge;
     let feed = s.feed;
-    let held = feed::within(feed.held, line);
-    let at = feed::within(s.pending, out);
+    let held = door_feed::within(feed.held, line);
+    let at = door_feed::within(s.pending, out);
     let most = out.len();
-    let r = session::reply(
+    let r = door_session::reply(
         Hpa(BASE_BYTES),
         frames,
         domains,
@@ -184,7 +184,7 @@ fn run_line(
     State {
         gauge: now,
         feed,
-        pending: feed::advanced(at, r.wrote, most),
+        pending: door_feed::advanced(at, r.wrote, most),
         stopped: s.stopped,
         given_up: s.given_up,
     }
@@ -193,10 +193,10 @@ fn run_line(
 // Line 10001 answers 15 and ends the reading.
 fn stop_at(out: &mut [u8], old: State) -> State {
     let s = with_room(out, old);
-    let at = feed::within(s.pending, out);
+    let at = door_feed::within(s.pending, out);
     let most = out.len();
-    let n = answers::write_unreadable(&mut out[at..], feed::LINES_MOST + 1);
-    let pending = feed::advanced(at, n, most);
+    let n = door_answers::write_unreadable(&mut out[at..], door_feed::LINES_MOST + 1);
+    let pending = door_feed::advanced(at, n, most);
     stop(with_pending(s, pending))
 }
 
@@ -217,9 +217,9 @@ fn take_byte(
     s: State,
 ) -> State {
     let feed = s.feed;
-    match feed::turn_of(feed, byte) {
+    match door_feed::turn_of(feed, byte) {
         Turn::Hold(next) => {
-            feed::hold(line, feed.held, byte);
+            door_feed::hold(line, feed.held, byte);
             with_feed(s, next)
         }
         Turn::Ends(next) => {
@@ -316,7 +316,7 @@ fn end_line(
     if feed.held == 0 {
         return s;
     }
-    if feed.lines >= feed::LINES_MOST {
+    if feed.lines >= door_feed::LINES_MOST {
         return s;
     }
     run_line(

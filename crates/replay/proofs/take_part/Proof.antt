@@ -1,12 +1,8 @@
-use borrow.Author.Needs.{needs}
-use native.Mathlib.Omega.{arith}
-use mathlib.Core.Path.{_≡_}
-use Prim.Native.Nat.{ℕ, _+_, _-_, _^_, _<_}
-use lib.ListN.{length}
-use Rattle.replay.proofs.take_part.Statement.{statement}
-use Rattle.replay.proofs.take_part.Tie as tie
+use Rattle.base_rules.specs.Basics.{_≡_, ℕ, _+_, _-_, _^_, _<_, length}
+use Rattle.base_rules.proofs.Facts.{needs, arith}
+use Rattle.replay.proofs.take_part.{Statement.statement, Tie.InvT-loop, Tie.MeasureT-loop, Tie.close, Tie.spec}
 
-abbrev Inv-loop : tie.InvT-loop
+abbrev Inv-loop : InvT-loop
 Inv-loop frames₀ domains₀ stock₀ entries₀ line₀ out₀ part s₀ i₀ frames domains stock entries line out s i =
     (length frames ≡ length frames₀)
     × ((length domains ≡ length domains₀)
@@ -14,7 +10,7 @@ Inv-loop frames₀ domains₀ stock₀ entries₀ line₀ out₀ part s₀ i₀ 
     × ((length entries ≡ length entries₀)
     × ((length line ≡ length line₀) × (length out ≡ length out₀)))))
 
-abbrev μ-loop : tie.MeasureT-loop
+abbrev μ-loop : MeasureT-loop
 μ-loop frames₀ domains₀ stock₀ entries₀ line₀ out₀ part s₀ i₀ frames domains stock entries line out s i = length part - i
 
 next : (i n : ℕ) → i < n → n < 2 ^ 64 → i + 1 < 2 ^ 64
@@ -24,28 +20,16 @@ fewer : (i n : ℕ) → i < n → n - (i + 1) < n - i
 fewer i n h = omega arith
 
 pub take-part-spec : {M : Type 1} → statement M
-take-part-spec =
-    tie.close
-    (tie.spec
-    Inv-loop
-    μ-loop
-    (λ c. search needs)
-    (λ c. search needs)
-    (λ c. search needs)
-    (λ c. search needs)
-    (λ c. search needs)
-    (λ c. search needs)
-    (λ c. search needs)
-    (λ c. search needs)
-    (λ c. search needs)
-    (λ c κs. search needs)
-    (λ c. record { fits = next _ _ (c .before .before .before .before .before .before .before .before .before .before .before .before .before .before .before .before .before .before .before .before .before .loop-test .taken) (c .before .before .before .before .before .before .before .before .before .before .before .before .before .before .before .before .before .before .before .before .before .before .before .before .before .before .before .before .before .before .good .1 .1 .1 .1 .1 .1 .0 .0) })
-    (λ c. fewer _ _ (c .before .before .before .before .before .before .before .before .before .before .before .before .before .before .before .before .before .before .before .before .before .loop-test .taken))
-    (λ c. search needs)
-    (λ c. search needs)
-    (λ c. search needs)
-    (λ c. search needs)
-    (λ c. search needs)
-    (λ c. search needs)
-    (λ c. search needs)
-    (λ c. search needs))
+take-part-spec = close (spec
+    Inv-loop μ-loop (λ c. search needs) (λ c. search needs) (λ c. search needs) (λ c. search needs) (λ c. search needs) (λ c. search needs)
+    (λ c. search needs) (λ c. search needs) (λ c. search needs) (λ c κs. search needs)
+    (λ c. record {
+      fits = next _ _ (c .before .before .before .before .before .before .before .before .before .before .before .before .before .before .before
+          .before .before .before .before .before .before .loop-test .taken)
+          (c .before .before .before .before .before .before .before .before .before .before .before .before .before .before .before .before .before .before
+          .before .before .before .before .before .before .before .before .before .before .before .before .good .1 .1 .1 .1 .1 .1 .0 .0);
+    })
+    (λ c. fewer _ _ (c .before .before .before .before .before .before .before .before .before .before .before .before .before .before .before .before .before
+    .before .before .before .before .loop-test .taken))
+    (λ c. search needs) (λ c. search needs) (λ c. search needs) (λ c. search needs) (λ c. search needs) (λ c. search needs)
+    (λ c. search needs) (λ c. search needs))

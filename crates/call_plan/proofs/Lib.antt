@@ -1,0 +1,2 @@
+pub mod Ons
+pub mod Parts

@@ -1,0 +1,4 @@
+pub mod Open
+pub mod Right
+pub mod Run
+pub mod Witness

@@ -1,0 +1,14 @@
+pub mod Stores
+pub mod Ranged
+pub mod Kept
+pub mod Frames
+pub mod Fresh
+pub mod Facts
+pub mod Says
+pub mod Ranges
+pub mod Edits
+pub mod Lookups
+pub mod Plans
+pub mod Used
+pub mod Keeps
+pub mod Run
