@@ -4,44 +4,80 @@ ghost use Rattle.base_calls.specs.Answers.{valuesOf};
 use base_units::address::Gpa;
 use base_units::address::Hpa;
 
-// D is the domain's TDR, F a frame; operands in the order of the paper's table.
+// `domain` is its TDR's hpa (the paper's D), `frame` a frame's (F); operands in the order of the paper's table.
 pub enum Call {
-    // F, key
-    Create(Hpa, u64),
-    // D
-    KeyConfig(Hpa),
-    // D, F
-    AddCx(Hpa, Hpa),
-    // D
-    Init(Hpa),
-    // D, gpa, level, F
-    SeptAdd(Hpa, Gpa, usize, Hpa),
-    // D, gpa, F
-    PageAdd(Hpa, Gpa, Hpa),
-    // D
-    Finalize(Hpa),
-    // D, gpa, F
-    PageAug(Hpa, Gpa, Hpa),
-    // D, gpa, level
-    Block(Hpa, Gpa, usize),
-    // D
-    Track(Hpa),
-    // D, gpa, level
-    Unblock(Hpa, Gpa, usize),
-    // D, gpa
-    PageRemove(Hpa, Gpa),
-    // D, gpa, level
-    SeptRemove(Hpa, Gpa, usize),
-    // D
-    FlushDone(Hpa),
-    // D
-    KeyFree(Hpa),
-    // F
-    Reclaim(Hpa),
-    // F
-    ReadPage(Hpa),
-    // D, gpa, level
-    ReadEntry(Hpa, Gpa, usize),
+    Create {
+        frame: Hpa,
+        key: u64,
+    },
+    KeyConfig {
+        domain: Hpa,
+    },
+    AddCx {
+        domain: Hpa,
+        frame: Hpa,
+    },
+    Init {
+        domain: Hpa,
+    },
+    SeptAdd {
+        domain: Hpa,
+        gpa: Gpa,
+        level: usize,
+        frame: Hpa,
+    },
+    PageAdd {
+        domain: Hpa,
+        gpa: Gpa,
+        frame: Hpa,
+    },
+    Finalize {
+        domain: Hpa,
+    },
+    PageAug {
+        domain: Hpa,
+        gpa: Gpa,
+        frame: Hpa,
+    },
+    Block {
+        domain: Hpa,
+        gpa: Gpa,
+        level: usize,
+    },
+    Track {
+        domain: Hpa,
+    },
+    Unblock {
+        domain: Hpa,
+        gpa: Gpa,
+        level: usize,
+    },
+    PageRemove {
+        domain: Hpa,
+        gpa: Gpa,
+    },
+    SeptRemove {
+        domain: Hpa,
+        gpa: Gpa,
+        level: usize,
+    },
+    FlushDone {
+        domain: Hpa,
+    },
+    KeyFree {
+        domain: Hpa,
+    },
+    Reclaim {
+        frame: Hpa,
+    },
+    ReadPage {
+        frame: Hpa,
+    },
+    ReadEntry {
+        domain: Hpa,
+        gpa: Gpa,
+        level: usize,
+    },
 }
 
 // What a host asks: one of its calls, the setting of the gauge's marks (raise, clear), a fresh start, or nothing that has a name.

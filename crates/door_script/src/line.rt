@@ -146,24 +146,62 @@ fn built(row: usize, a: u64, b: u64, c: u64, d: u64) -> Call
     ensures { λ r. ⌜ r ≡ callAt row (a ∷ b ∷ c ∷ d ∷ []) ⌝ }
 {
     match row {
-        1 => Call::KeyConfig(Hpa(a)),
-        2 => Call::AddCx(Hpa(a), Hpa(b)),
-        3 => Call::Init(Hpa(a)),
-        4 => Call::SeptAdd(Hpa(a), Gpa(b), c as usize, Hpa(d)),
-        5 => Call::PageAdd(Hpa(a), Gpa(b), Hpa(c)),
-        6 => Call::Finalize(Hpa(a)),
-        7 => Call::PageAug(Hpa(a), Gpa(b), Hpa(c)),
-        8 => Call::Block(Hpa(a), Gpa(b), c as usize),
-        9 => Call::Track(Hpa(a)),
-        10 => Call::Unblock(Hpa(a), Gpa(b), c as usize),
-        11 => Call::PageRemove(Hpa(a), Gpa(b)),
-        12 => Call::SeptRemove(Hpa(a), Gpa(b), c as usize),
-        13 => Call::FlushDone(Hpa(a)),
-        14 => Call::KeyFree(Hpa(a)),
-        15 => Call::Reclaim(Hpa(a)),
-        16 => Call::ReadPage(Hpa(a)),
-        17 => Call::ReadEntry(Hpa(a), Gpa(b), c as usize),
-        _ => Call::Create(Hpa(a), b),
+        1 => Call::KeyConfig { domain: Hpa(a) },
+        2 => Call::AddCx {
+            domain: Hpa(a),
+            frame: Hpa(b),
+        },
+        3 => Call::Init { domain: Hpa(a) },
+        4 => Call::SeptAdd {
+            domain: Hpa(a),
+            gpa: Gpa(b),
+            level: c as usize,
+            frame: Hpa(d),
+        },
+        5 => Call::PageAdd {
+            domain: Hpa(a),
+            gpa: Gpa(b),
+            frame: Hpa(c),
+        },
+        6 => Call::Finalize { domain: Hpa(a) },
+        7 => Call::PageAug {
+            domain: Hpa(a),
+            gpa: Gpa(b),
+            frame: Hpa(c),
+        },
+        8 => Call::Block {
+            domain: Hpa(a),
+            gpa: Gpa(b),
+            level: c as usize,
+        },
+        9 => Call::Track { domain: Hpa(a) },
+        10 => Call::Unblock {
+            domain: Hpa(a),
+            gpa: Gpa(b),
+            level: c as usize,
+        },
+        11 => Call::PageRemove {
+            domain: Hpa(a),
+            gpa: Gpa(b),
+        },
+        12 => Call::SeptRemove {
+            domain: Hpa(a),
+            gpa: Gpa(b),
+            level: c as usize,
+        },
+        13 => Call::FlushDone { domain: Hpa(a) },
+        14 => Call::KeyFree { domain: Hpa(a) },
+        15 => Call::Reclaim { frame: Hpa(a) },
+        16 => Call::ReadPage { frame: Hpa(a) },
+        17 => Call::ReadEntry {
+            domain: Hpa(a),
+            gpa: Gpa(b),
+            level: c as usize,
+        },
+        _ => Call::Create {
+            frame: Hpa(a),
+            key: b,
+        },
     }
 }
 
