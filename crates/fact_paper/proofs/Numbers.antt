@@ -4,7 +4,7 @@ use Rattle.base_rules.proofs.Facts.{refl}
 use lib.Count.{ones}
 use Rattle.base_units.specs.Limits.{between, framesOk, baseOk}
 use Rattle.fact_cases.specs.Cases.{run, AllRight}
-use Rattle.fact_paper.specs.{Numbers.numbered, Numbers.Limits, Numbers.Packed, Numbers.Left, Asked.each, Asked.every, Asked.below, Asked.asked}
+use Rattle.fact_paper.specs.{Numbers.numbered, Numbers.Limits, Numbers.Packed, Numbers.Left, Asked.each, Asked.every, Asked.rootTables, Asked.asked}
 use Rattle.fact_cases.proofs.{Right.holds, Right.same, Right.all-right, Open.call-open}
 
 pub numbers-right : AllRight numbered
@@ -12,7 +12,7 @@ unfolding numbered holds same run call-open
 numbers-right = all-right numbered refl
 
 pub asked-right : AllRight asked
-unfolding asked each every below holds same run call-open
+unfolding asked each every rootTables holds same run call-open
 asked-right = all-right asked refl
 
 pub packed : Packed

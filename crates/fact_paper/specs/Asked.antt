@@ -6,11 +6,11 @@ use Rattle.base_calls.specs.declared.Call.{Call}
 use Rattle.fact_cases.specs.Cases.{Case, hpa, gpa, no, case, D, line-1, line-6, line-7, blocked, tracked}
 use Rattle.fact_paper.specs.Numbers.{frame, stopped, pending}
 
--- each of some calls in one state, with its answer
+-- each of some calls in one state, with its answer. (A row that is too short can't hold: no call answers 99.)
 unfoldable pub each : List Call → List Call → List ℕ → List Case
 each before (c ∷ cs) (n ∷ ns) = case before c (no n) ∷ each before cs ns
 each before [] ns = []
-each before (c ∷ cs) [] = []
+each before (c ∷ cs) [] = case before c (no 99) ∷ []
 
 -- all of them with one answer
 unfoldable pub every : List Call → List Call → ℕ → List Case
@@ -127,14 +127,15 @@ operands =
     ∷ Call.ReadPage outside
     ∷ []) 1)))))))))
 
--- ---- F's 2; 11: no unused record, no unused table, where the last one is taken; 2 and 9: reclaim of a frame wants some use, of a TDR no children
+-- ---- F's 2; 10: a key is free once its domain is in teardown; 11: no unused record, no unused table, where the last one was taken; 2 and 9: reclaim of a
+-- frame wants some use, of a TDR no children
 abbrev three : List Call
 three = Call.Create (frame 0) 32 ∷ Call.Create (frame 1) 33 ∷ Call.Create (frame 2) 34 ∷ []
 
 -- a table at each of the first n entries of the root
-unfoldable pub below : ℕ → List Call
-below zero = []
-below (suc n) = Call.SeptAdd D (gpa (2 ^ 39 * n)) 3 (frame (9 + n)) ∷ below n
+unfoldable pub rootTables : ℕ → List Call
+rootTables zero = []
+rootTables (suc n) = Call.SeptAdd D (gpa (2 ^ 39 * n)) 3 (frame (9 + n)) ∷ rootTables n
 
 abbrev pub frames : List Case
 frames =
@@ -142,10 +143,12 @@ frames =
     ∷ case initialized (Call.SeptAdd D (gpa 0) 3 (frame 1)) (no 2)
     ∷ case initialized (Call.PageAdd D (gpa 0) (frame 1)) (no 2)
     ∷ case runnable (Call.PageAug D (gpa 0) (frame 1)) (no 2)
+    ∷ case flushed (Call.Create (frame 9) 32) (no 10)
+    ∷ case dead (Call.Create (frame 9) 32) (no 0)
     ∷ case three (Call.Create (frame 3) 35) (no 0)
     ∷ case (three ++ (Call.Create (frame 3) 35 ∷ [])) (Call.Create (frame 4) 36) (no 11)
-    ∷ case (initialized ++ below 11) (Call.SeptAdd D (gpa (2 ^ 39 * 11)) 3 (frame 20)) (no 0)
-    ∷ case (initialized ++ below 12) (Call.SeptAdd D (gpa (2 ^ 39 * 12)) 3 (frame 21)) (no 11)
+    ∷ case (initialized ++ rootTables 11) (Call.SeptAdd D (gpa (2 ^ 39 * 11)) 3 (frame 20)) (no 0)
+    ∷ case (initialized ++ rootTables 12) (Call.SeptAdd D (gpa (2 ^ 39 * 12)) 3 (frame 21)) (no 11)
     ∷ case configured (Call.Reclaim (frame 1)) (no 3)
     ∷ case dead (Call.Reclaim (frame 1)) (no 0)
     ∷ case (dead ++ (Call.Reclaim (frame 1) ∷ [])) (Call.Reclaim D) (no 0)
