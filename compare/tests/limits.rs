@@ -300,6 +300,66 @@ fn the_lowest_unused_record_is_taken_and_wiped() {
     }
 }
 
+/// Frames 512, records 16 and as many tables, with a live domain in record 0 and
+/// records and tables in use as said.
+fn largest(tables: usize, in_use: impl Fn(usize) -> bool) -> Parts {
+    let mut lent = window(BASE, 512, 5);
+    lent.frames[0] = frame(TDR, 0, 0, 0);
+    lent.domains = [scalars(32, 3, 0, 0, 0, 1), 0, 0, 0, 0].repeat(16); // in teardown: their key is free
+    lent.domains[..5].copy_from_slice(&[scalars(32, 1, 1, 4, 4, 1), 1, 2, 3, 4]);
+    lent.stock = vec![0; 2];
+    lent.entries = vec![0; 512 * (tables + 16)];
+    for block in (0..tables + 16).filter(|&block| in_use(block)) {
+        lent.stock[block / 64] |= 1 << (block % 64);
+    }
+    lent
+}
+
+/// The number in the word of frame 9, once it was taken; none at answer 11.
+fn number_taken(door: &mut Door, request: &Request, lent: &Parts) -> Option<u64> {
+    let asked = door.ask(lent, request).unwrap();
+    match asked.answer.number {
+        0 => Some(asked.lent.frames[9] >> 17 & 0xff),
+        number => {
+            assert_eq!(number, 11);
+            assert!(asked.lent == *lent);
+            None
+        }
+    }
+}
+
+/// Each place for the lowest unused one, nothing behind it in use and all of it.
+#[test]
+fn the_lowest_unused_one_is_found_in_a_full_word_and_across_two() {
+    let mut door = common::open_door();
+    let create = Request {
+        key: Key(47),
+        ..on_frame(number::CREATE, at(9))
+    };
+    let septadd = Request {
+        frame: at(9),
+        ..on_tree(number::SEPTADD, Gpa(0), Level(3))
+    };
+    for all_behind in [false, true] {
+        // The tables fill the first word.
+        for lowest in 0..=64 {
+            let lent = largest(64, |block| {
+                block == 64 || block < lowest || all_behind && block > lowest
+            });
+            let found = (lowest < 64).then_some(lowest as u64);
+            assert_eq!(number_taken(&mut door, &septadd, &lent), found);
+        }
+        // Records 0 to 3 have the last bits of the first word.
+        for lowest in 1..=16 {
+            let lent = largest(60, |block| {
+                block < 60 + lowest || all_behind && block > 60 + lowest
+            });
+            let found = (lowest < 16).then_some(lowest as u64);
+            assert_eq!(number_taken(&mut door, &create, &lent), found);
+        }
+    }
+}
+
 #[test]
 fn a_table_given_back_is_unused_and_left_as_it_is() {
     let mut lent = tree([1, 2, 3, 4]);

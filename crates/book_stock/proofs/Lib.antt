@@ -2,3 +2,4 @@ pub mod Bit
 pub mod Uses
 pub mod Lowest
 pub mod Wipes
+pub mod Runs

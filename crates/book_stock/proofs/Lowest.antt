@@ -1,5 +1,5 @@
 -- Laws of the lowest unused block.
-use Rattle.base_rules.specs.Basics.{_≡_, true, false, List, ℕ, zero, suc, _+_, _-_, _<_, _≤_, choose}
+use Rattle.base_rules.specs.Basics.{_≡_, true, false, List, ℕ, zero, suc, _+_, _-_, _<_, _≤_}
 use Rattle.base_rules.proofs.Facts.{refl, ⊎-elim, eq-or-lt-of-le, arith, choose-both}
 use Rattle.book_stock.specs.declared.bits.Lowest.{Lowest, the-variants.At, the-variants.Full}
 use Rattle.book_stock.specs.Bits.{inUse, lowestFrom, lowestUnused, onLowest}
@@ -15,16 +15,6 @@ module _ {A : Type 0} {z : A} where
   lowest-full k e h g = rw (← e, h) g
 
 pub ruleset lowests = (lowest-at, lowest-full)
-
--- a turn of the scan, and its end
-module _ (ws : List ℕ) where
-  pub scan-step : (to b : ℕ) → b < to → lowestFrom ws b (to - b) ≡ choose (inUse ws b) (lowestFrom ws (b + 1) (to - (b + 1))) (At b)
-  unfolding lowestFrom
-  scan-step to b h = let e : to - b ≡ suc (to - (b + 1)) = omega arith in rw e
-
-  pub scan-end : (to b : ℕ) → to ≤ b → lowestFrom ws b (to - b) ≡ Full
-  unfolding lowestFrom
-  scan-end to b h = let e : to - b ≡ 0 = omega arith in rw e
 
 -- b is unused, and each block before it from `from` on is in use
 pub record IsLowest (ws : List ℕ) (from to b : ℕ) : Type 0 where

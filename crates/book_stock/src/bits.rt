@@ -1,9 +1,12 @@
 // One in-use bit a block, 64 to a word. Outside the lent words a bit reads as 0, unused, and a write there does nothing.
 ghost use mathlib.Core.Path.{_≡_};
-ghost use Prim.Native.Nat.{_%_};
+ghost use Prim.Native.Nat.{ℕ, _+_, _%_, _<_};
+ghost use mathlib.Core.Bool.{true, false};
 ghost use Rattle.book_stock.specs.Bits.{wordBits, wordOf, inUse, withBit, setUse, lowestUnused, spareClear};
 
 pub const WORD_BITS: usize = 64;
+// A word whose bits are all ones.
+const WORD_MOST: u64 = 18446744073709551615;
 
 // The lowest unused block of a range, where there is one.
 pub enum Lowest {
@@ -56,16 +59,31 @@ pub fn put_use(stock: &mut [u64], block: usize, on: bool)
     }
 }
 
-// The lowest unused block from `from` up to but not including `to`.
+// How many blocks from this one on are in use, one after the other, as far as its word goes.
+fn used_run(stock: &[u64], block: usize) -> usize
+    ensures used { λ r. ⌜ ((j : ℕ) → j < r → inUse (now (stock .entry)) (block + j) ≡ true) ⌝ }
+    ensures ends { λ r. ⌜ (r ≡ 0 → inUse (now (stock .entry)) block ≡ false) ⌝ }
+{
+    let word = word_of(stock, block);
+    // With every bit turned over, what stands below the lowest one are the bits in use.
+    let unused = WORD_MOST - (word >> (block % WORD_BITS));
+    u64::trailing_zeros(unused) as usize
+}
+
+// The lowest unused block from `from` up to but not including `to`. A stretch in use is passed over at once, up to a whole word of it.
 pub fn lowest_unused(stock: &[u64], from: usize, to: usize) -> Lowest
     ensures { λ r. ⌜ r ≡ lowestUnused (now (stock .entry)) from to ⌝ }
 {
     let mut block = from;
     while block < to {
-        if !in_use(stock, block) {
+        let used = used_run(stock, block);
+        if used == 0 {
             return Lowest::At(block);
         }
-        block += 1;
+        if to - block <= used {
+            return Lowest::Full;
+        }
+        block += used;
     }
     Lowest::Full
 }
