@@ -300,9 +300,9 @@ fn the_lowest_unused_record_is_taken_and_wiped() {
     }
 }
 
-/// Frames 512, records 16 and as many tables, with a live domain in record 0 and
-/// records and tables in use as said.
-fn largest(tables: usize, in_use: impl Fn(usize) -> bool) -> Parts {
+/// Frames 512, records 16 and tables as said, with a live domain in record 0;
+/// which blocks are in use is said too.
+fn two_words(tables: usize, in_use: impl Fn(usize) -> bool) -> Parts {
     let mut lent = window(BASE, 512, 5);
     lent.frames[0] = frame(TDR, 0, 0, 0);
     lent.domains = [scalars(32, 3, 0, 0, 0, 1), 0, 0, 0, 0].repeat(16); // in teardown: their key is free
@@ -343,7 +343,7 @@ fn the_lowest_unused_one_is_found_in_a_full_word_and_across_two() {
     for all_behind in [false, true] {
         // The tables fill the first word.
         for lowest in 0..=64 {
-            let lent = largest(64, |block| {
+            let lent = two_words(64, |block| {
                 block == 64 || block < lowest || all_behind && block > lowest
             });
             let found = (lowest < 64).then_some(lowest as u64);
@@ -351,7 +351,7 @@ fn the_lowest_unused_one_is_found_in_a_full_word_and_across_two() {
         }
         // Records 0 to 3 have the last bits of the first word.
         for lowest in 1..=16 {
-            let lent = largest(60, |block| {
+            let lent = two_words(60, |block| {
                 block < 60 + lowest || all_behind && block > 60 + lowest
             });
             let found = (lowest < 16).then_some(lowest as u64);

@@ -1,3 +1,4 @@
 pub mod Numbers
 pub mod Harmed
+pub mod Ranges
 pub mod Lines

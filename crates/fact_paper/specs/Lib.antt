@@ -1,4 +1,5 @@
 pub mod Numbers
 pub mod Asked
 pub mod Harmed
+pub mod Ranges
 pub mod Lines

@@ -1,0 +1,23 @@
+-- Words at the ends of answer 13's ranges are judged as the paper says.
+use Rattle.base_rules.proofs.Facts.{refl}
+use Rattle.book_stock.specs.Bits.{spareClear}
+use Rattle.book_range.specs.Range.{frameLimits, frameOk, entryOk, entriesOk, pageOk, pagesOk, domainOk, recordOk, tableOk, rootedOk}
+use Rattle.fact_cases.proofs.Open.{call-open}
+use Rattle.fact_paper.specs.Ranges.{all, none, Ranges}
+
+pub ranges : Ranges
+unfolding all none frameLimits frameOk entryOk entriesOk pageOk pagesOk domainOk recordOk tableOk rootedOk spareClear call-open
+ranges = record {
+  framesIn = refl;
+  framesOut = refl;
+  entriesIn = refl;
+  entriesOut = refl;
+  recordsIn = refl;
+  recordsOut = refl;
+  tableOut = refl;
+  tableUnused = refl;
+  rootOut = refl;
+  rootUnused = refl;
+  spareIn = refl;
+  spareOut = refl;
+}

@@ -1,0 +1,110 @@
+-- Answer 13's ranges a second time, as words at their ends: "any stored number or code outside its range (a frame's epoch from 0, a child count up to the
+-- frames)", "a place without use holds 0". The sizes are the program's: frames 1024, records 4, tables 12.
+use Rattle.base_rules.specs.Basics.{ℕ, _+_, _-_, _*_, _^_, _≡_, Bool, true, false, not, List, [], _∷_, _++_, replicate, need}
+use Rattle.book_stock.specs.Bits.{spareClear}
+use Rattle.book_ledger.specs.declared.sizes.Sizes.{Sizes}
+use Rattle.book_range.specs.Range.{frameOk, entryOk, recordOk, tableOk, rootedOk}
+
+-- all of some words are in range; none is
+unfoldable pub all : {A : Type 0} → (A → Bool) → List A → Bool
+all p [] = true
+all p (w ∷ ws) = need (p w) false (all p ws)
+
+unfoldable pub none : {A : Type 0} → (A → Bool) → List A → Bool
+none p [] = true
+none p (w ∷ ws) = need (not (p w)) false (none p ws)
+
+-- ---- a frame: its type, owner, number, epoch and size
+abbrev program : Sizes
+program = record { frames = 1024; records = 4; tables = 12 }
+
+abbrev pub frame : ℕ → Bool
+frame w = frameOk program (w ∷ []) 0
+
+abbrev word : ℕ → ℕ → ℕ → ℕ → ℕ → ℕ
+word kind owner number epoch size = kind + 2 ^ 3 * owner + 2 ^ 17 * number + 2 ^ 25 * epoch + 2 ^ 57 * size
+
+abbrev pub frames : List ℕ
+frames =
+    word 0 0 0 0 0
+    ∷ word 1 0 3 0 0
+    ∷ word 2 1023 0 0 0
+    ∷ word 3 1023 11 (2 ^ 32 - 1) 0
+    ∷ word 3 0 0 0 0
+    ∷ word 4 1023 0 (2 ^ 32 - 1) 0
+    ∷ []
+
+abbrev pub noFrames : List ℕ
+noFrames =
+    word 0 1 0 0 0
+    ∷ word 0 0 1 0 0
+    ∷ word 0 0 0 1 0
+    ∷ word 0 0 0 0 1
+    ∷ word 1 1 0 0 0
+    ∷ word 1 0 4 0 0
+    ∷ word 1 0 0 1 0
+    ∷ word 2 1024 0 0 0
+    ∷ word 2 0 1 0 0
+    ∷ word 2 0 0 1 0
+    ∷ word 3 1024 0 0 0
+    ∷ word 3 0 12 0 0
+    ∷ word 3 0 0 0 1
+    ∷ word 4 1024 0 0 0
+    ∷ word 4 0 1 0 0
+    ∷ word 4 0 0 0 1
+    ∷ word 5 0 0 0 0
+    ∷ []
+
+-- ---- an entry: its state and frame
+abbrev pub entry : ℕ → Bool
+entry w = entryOk 1024 (w ∷ []) 0 0
+
+abbrev at : ℕ → ℕ → ℕ
+at state frame = state + 2 ^ 3 * frame
+
+-- ---- a record: key, lifecycle, op state, listed pages, children, epoch and width; then its control pages
+abbrev pub kept : List ℕ → Bool
+kept ws = recordOk 1024 ws 0
+
+abbrev scalars : ℕ → ℕ → ℕ → ℕ → ℕ → ℕ → ℕ → ℕ
+scalars key life op listed children epoch width = key + 2 ^ 7 * life + 2 ^ 10 * op + 2 ^ 12 * listed + 2 ^ 15 * children + 2 ^ 30 * epoch + 2 ^ 62 * width
+
+abbrev pub bare : ℕ → List ℕ
+bare w = w ∷ 0 ∷ 0 ∷ 0 ∷ 0 ∷ []
+
+abbrev pub records : List (List ℕ)
+records = bare (scalars 32 0 0 0 0 1 0) ∷ (scalars 47 3 2 4 1024 (2 ^ 32 - 1) 0 ∷ 1023 ∷ 0 ∷ 5 ∷ 7 ∷ []) ∷ []
+
+abbrev pub noRecords : List (List ℕ)
+noRecords =
+    bare (scalars 31 0 0 0 0 1 0)
+    ∷ bare (scalars 48 0 0 0 0 1 0)
+    ∷ bare (scalars 32 4 0 0 0 1 0)
+    ∷ bare (scalars 32 0 3 0 0 1 0)
+    ∷ bare (scalars 32 0 0 5 0 1 0)
+    ∷ bare (scalars 32 0 0 0 1025 1 0)
+    ∷ bare (scalars 32 0 0 0 0 0 0)
+    ∷ bare (scalars 32 0 0 0 0 1 1)
+    ∷ (scalars 32 0 0 3 0 1 0 ∷ 0 ∷ 0 ∷ 0 ∷ 1 ∷ [])
+    ∷ (scalars 32 0 0 4 0 1 0 ∷ 0 ∷ 0 ∷ 0 ∷ 1024 ∷ [])
+    ∷ []
+
+-- four tables, and behind them the root of record 0, its first entry out of range
+abbrev root : List ℕ
+root = replicate 2048 0 ++ (7 ∷ replicate 511 0)
+
+pub record Ranges : Type 0 where
+  pub framesIn : all frame frames ≡ true
+  pub framesOut : none frame noFrames ≡ true
+  pub entriesIn : all entry (at 0 0 ∷ at 1 0 ∷ at 6 1023 ∷ []) ≡ true
+  pub entriesOut : none entry (at 7 0 ∷ at 0 1 ∷ at 1 1024 ∷ at 6 1024 ∷ []) ≡ true
+  pub recordsIn : all kept records ≡ true
+  pub recordsOut : none kept noRecords ≡ true
+  -- "answer 13 doesn't look into unused ones": a table's last entry, a record's scalars and its root's first entry
+  pub tableOut : tableOk 1024 (1 ∷ []) (replicate 511 0 ++ (7 ∷ [])) 0 ≡ false
+  pub tableUnused : tableOk 1024 (0 ∷ []) (7 ∷ []) 0 ≡ true
+  pub rootOut : rootedOk 1024 (bare (scalars 32 0 0 0 0 1 0)) (2 ^ 4 ∷ []) root 0 ≡ false
+  pub rootUnused : rootedOk 1024 (bare 0) (0 ∷ []) root 0 ≡ true
+  -- a bit behind the last block's is no block's
+  pub spareIn : spareClear (2 ^ 4 ∷ []) 5 ≡ true
+  pub spareOut : spareClear (2 ^ 5 ∷ []) 5 ≡ false
