@@ -68,25 +68,25 @@ extern "C" {
 /* What reefnettle_version answers in an archive that fits this header. The number goes up whenever a struct, a number
  * or the layout of a lent word changes so that a header and an archive no longer fit. A new call alone doesn't move it:
  * an archive that lacks the call answers REEFNETTLE_ANSWER_UNREADABLE. */
-#define REEFNETTLE_VERSION 1
+#define REEFNETTLE_VERSION 2
 
 /* ---- Limits. Both ends belong to each range. ---- */
 
 #define REEFNETTLE_FRAME_BYTES 4096
 #define REEFNETTLE_FRAMES_LEAST 512 /* and a power of two */
-#define REEFNETTLE_FRAMES_MOST 4096
+#define REEFNETTLE_FRAMES_MOST 16384
 #define REEFNETTLE_BASE_BYTES_STEP UINT64_C(0x40000000) /* the base is a multiple of it */
 #define REEFNETTLE_BASE_BYTES_LEAST UINT64_C(0x40000000)
 #define REEFNETTLE_BASE_BYTES_MOST UINT64_C(0x400000000000)
 #define REEFNETTLE_RECORDS_LEAST 1
-#define REEFNETTLE_RECORDS_MOST 16
+#define REEFNETTLE_RECORDS_MOST 64
 #define REEFNETTLE_TABLES_LEAST 4
-#define REEFNETTLE_TABLES_MOST 64
+#define REEFNETTLE_TABLES_MOST 256
 #define REEFNETTLE_TABLE_ENTRIES 512
 #define REEFNETTLE_CONTROL_PAGES 4
 #define REEFNETTLE_RECORD_WORDS 5
 #define REEFNETTLE_KEY_LEAST 32
-#define REEFNETTLE_KEY_MOST 47
+#define REEFNETTLE_KEY_MOST 95
 #define REEFNETTLE_LEVEL_MOST 3
 #define REEFNETTLE_GPA_BYTES_END UINT64_C(0x800000000000) /* a gpa lies below it */
 
@@ -119,7 +119,7 @@ extern "C" {
  *
  * domains: words 5r to 5r + 4 are record r. The first of them:
  *
- *   bits 0 to 6     key 32 to 47
+ *   bits 0 to 6     key 32 to 95
  *   bits 7 to 9     lifecycle: HKID assigned 0, keys configured 1, blocked 2, teardown 3
  *   bits 10 and 11  op state: uninitialized 0, initialized 1, runnable 2
  *   bits 12 to 14   how many control pages are listed, 0 to 4

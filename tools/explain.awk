@@ -10,7 +10,7 @@
 
 function limits(   level) {
     BASE = 1073741824; FRAME_BYTES = 4096; FRAMES = 1024; RECORDS = 4; TABLES = 12; ENTRIES = 512
-    KEY_LOWEST = 32; KEY_HIGHEST = 47; CONTROL_PAGES = 4; FIRST_EPOCH = 1
+    KEY_LOWEST = 32; KEY_HIGHEST = 95; CONTROL_PAGES = 4; FIRST_EPOCH = 1
     TOP_LEVEL = 3; GPA_BITS = 47
     for (level = 0; level <= TOP_LEVEL; level++) ALIGNED_TO[level] = power_of_two(12 + 9 * level)
     RAISE_MARK = 0.75; CLEAR_MARK = 0.5

@@ -86,7 +86,7 @@ impl Model {
     /// let mut model = Model::import(parts.clone())?;
     /// model.keyconfig(model.window().hpa(Frame(7)).unwrap())?;
     ///
-    /// parts.set_record(Record(0), DomainRecord::new(Key(48)))?;
+    /// parts.set_record(Record(0), DomainRecord::new(Key(96)))?;
     /// assert_eq!(Model::import(parts), Err(Refusal::OutOfRange)); // no such key
     /// # Ok::<(), Refusal>(())
     /// ```

@@ -8,7 +8,7 @@ use crate::units::{Gpa, Hpa, Key, Level};
 
 /// The version of the library that this package is for. It goes up when a struct,
 /// a number or the layout of a stored word changes, so that the two no longer fit.
-pub const VERSION: u64 = 1;
+pub const VERSION: u64 = 2;
 
 /// Numbers of the calls.
 #[allow(missing_docs)]

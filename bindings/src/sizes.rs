@@ -47,9 +47,9 @@ impl Sizes {
 
     /// The most that the library takes.
     pub const MOST: Sizes = Sizes {
-        frames: 4096,
-        records: 16,
-        tables: 64,
+        frames: 16384,
+        records: 64,
+        tables: 256,
     };
 
     /// Those of the replay program.

@@ -35,7 +35,7 @@ pub struct Frame(pub usize);
 #[derive(Clone, Copy, Debug, Default, PartialEq, Eq, PartialOrd, Ord, Hash)]
 pub struct Level(pub usize);
 
-/// A key (HKID), 32 to 47. Another number is an operand like any other, which
+/// A key (HKID), 32 to 95. Another number is an operand like any other, which
 /// the model refuses.
 #[repr(transparent)]
 #[derive(Clone, Copy, Debug, Default, PartialEq, Eq, PartialOrd, Ord, Hash)]
@@ -59,7 +59,7 @@ impl Key {
     /// The lowest key.
     pub const LEAST: Key = Key(32);
     /// The highest key.
-    pub const MOST: Key = Key(47);
+    pub const MOST: Key = Key(95);
 }
 
 impl Level {

@@ -282,7 +282,7 @@ fn a_plan_goes_on_from_the_tables_of_a_running_machine() {
 fn tables_out_of_range_touch_no_metal() {
     let mut parts = common::running().unwrap();
     let mut record = parts.record(Record(0)).unwrap();
-    record.key = Key(48);
+    record.key = Key(96);
     parts.set_record(Record(0), record).unwrap();
     let (report, concluded) = managed(&mut StandIn(Model::from_parts(parts)));
     assert_eq!(report, "");

@@ -73,12 +73,12 @@ fn any_record_packs_and_unpacks_to_itself_or_is_too_big() {
         record.listed = listed as usize;
         record.children = children as usize;
         record.epoch = Epoch(epoch);
-        record.pages = [Frame(0), Frame(1), Frame(4095), Frame(usize::MAX)];
+        record.pages = [Frame(0), Frame(1), Frame(16383), Frame(usize::MAX)];
         let packed = record.pack();
         if over == 4 {
             // All bits but the lifecycle's highest and the op state's lowest.
             let scalars = u64::MAX - (1 << 9) - (1 << 10);
-            assert_eq!(packed, Ok([scalars, 0, 1, 4095, u64::MAX]));
+            assert_eq!(packed, Ok([scalars, 0, 1, 16383, u64::MAX]));
             assert_eq!(DomainRecord::unpack(packed.unwrap()), Ok(record));
         } else {
             assert_eq!(packed, Err(Refusal::OutOfRange), "field {over}");
@@ -120,7 +120,7 @@ fn lengths_follow_from_the_sizes() {
     };
     assert_eq!(words(Sizes::LEAST), [512, 5, 1, 2560]);
     assert_eq!(words(Sizes::PROGRAM), [1024, 20, 1, 8192]);
-    assert_eq!(words(Sizes::MOST), [4096, 80, 2, 40960]);
+    assert_eq!(words(Sizes::MOST), [16384, 320, 5, 163840]);
     let blocks_64 = Sizes {
         records: 4,
         tables: 60,
@@ -182,14 +182,14 @@ fn the_words_of_the_example_are_read_with_types() -> Result<(), Refusal> {
 #[test]
 fn one_bit_of_the_stock_moves_at_a_time() -> Result<(), Refusal> {
     let mut parts = Model::fresh(Window::BASE_LEAST, Sizes::MOST)?.into_parts();
-    parts.stock = vec![0b110, u64::MAX >> 48];
+    parts.stock = vec![0b110, 0, 0, 0, 0xffff];
     for _again in 0..2 {
         parts.set_table_in_use(Table(0), true)?;
         parts.set_table_in_use(Table(1), false)?;
-        parts.set_table_in_use(Table(63), true)?;
+        parts.set_table_in_use(Table(255), true)?;
         parts.set_record_in_use(Record(0), false)?;
-        parts.set_record_in_use(Record(15), true)?;
-        assert_eq!(parts.stock, [1 << 63 | 0b101, 0xfffe]);
+        parts.set_record_in_use(Record(63), true)?;
+        assert_eq!(parts.stock, [0b101, 0, 0, 1 << 63, 1 << 63 | 0xfffe]);
     }
     Ok(())
 }

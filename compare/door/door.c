@@ -16,7 +16,7 @@
 enum { FRAMES, DOMAINS, STOCK, ENTRIES, GAUGE, PARTS };
 
 /* Whole pages on each processor: a page has at most bytes 65536. */
-enum { PART_BYTES = 8 * 65536, GUARD_BYTES = 65536 };
+enum { PART_BYTES = 32 * 65536, GUARD_BYTES = 65536 };
 
 typedef struct {
     uint64_t at; /* bytes from the beginning of its part */

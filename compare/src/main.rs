@@ -8,7 +8,7 @@
 //! DOOR and its words are the command that starts the library's door, which
 //! `compare/run` builds. The same seed gives the same cases. It fails where the
 //! sides differ, if the door ends or gives no answer within the patience, and if
-//! an answer, an accepted call or a place of answer 14 was never met.
+//! a window, an answer, an accepted call or a place of answer 14 was never met.
 
 mod damage;
 mod floats;
@@ -91,7 +91,9 @@ impl Comparison {
     /// what else can be lent and asked where each has come to.
     fn run_window(&mut self) -> Compared<()> {
         self.door.turn();
-        let junk = spoil::junk(&mut self.rng);
+        let sizes = spoil::sizes(&mut self.rng);
+        self.tally.note_window(sizes);
+        let junk = spoil::junk(&mut self.rng, sizes);
         let reset = Request {
             call: number::RESET,
             ..Request::default()

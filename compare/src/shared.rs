@@ -18,7 +18,7 @@ pub enum Part {
 }
 
 const PARTS: usize = Part::Gauge as usize + 1;
-pub const PART_BYTES: usize = 8 * 65536;
+pub const PART_BYTES: usize = 32 * 65536;
 
 /// What is written at once, if anything of it is new.
 const PIECE_BYTES: usize = 4096;

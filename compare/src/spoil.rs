@@ -123,9 +123,9 @@ fn other_base(rng: &mut Rng) -> Hpa {
 fn other_sizes(rng: &mut Rng, lent: &Parts) -> Parts {
     let (mut frames, mut records, mut tables) = (512, 1, 4);
     match rng.below(3) {
-        0 => frames = [0, 1, 256, 511, 513, 768, 4608, 8192][rng.index(8)],
-        1 => records = [0, 17, 32][rng.index(3)],
-        _ => tables = [0, 3, 65, 128][rng.index(4)],
+        0 => frames = [0, 1, 256, 511, 513, 768, 18432, 32768][rng.index(8)],
+        1 => records = [0, 65, 128][rng.index(3)],
+        _ => tables = [0, 3, 257, 512][rng.index(4)],
     }
     let machine = Machine::with_sizes(lent.base.0, frames, records, tables);
     layout::pack(&machine)
@@ -175,10 +175,31 @@ fn any_gauge(rng: &mut Rng, machine: &Machine) -> Gauge {
     }
 }
 
+/// Frames, records and tables of a window.
+pub type Sizes = (usize, usize, usize);
+
+/// The least, the program's, others, some that fill the words of the stock to
+/// the last bit, and the largest; each with its weight.
+pub const SIZES: [(Sizes, u64); 10] = [
+    ((512, 1, 4), 20),
+    ((1024, 4, 12), 30),
+    ((512, 3, 16), 30),
+    ((2048, 2, 5), 8),
+    ((4096, 16, 64), 3),
+    ((512, 2, 62), 3),
+    ((512, 2, 63), 3),
+    ((16384, 1, 4), 1),
+    ((512, 64, 256), 1),
+    ((16384, 64, 256), 1),
+];
+
+pub fn sizes(rng: &mut Rng) -> Sizes {
+    SIZES[rng.weighted(&SIZES.map(|(_, weight)| weight))].0
+}
+
 /// Any bits in all words, of sizes within the limits: what a reset may find.
-pub fn junk(rng: &mut Rng) -> Parts {
+pub fn junk(rng: &mut Rng, (frames, records, tables): Sizes) -> Parts {
     const STEPS: u64 = BASE_HIGHEST / BASE_LOWEST;
-    let (frames, records, tables) = sizes(rng);
     let base = BASE_LOWEST * [1, STEPS, 1 + rng.below(STEPS)][rng.index(3)];
     let blocks = tables + records;
     Parts {
@@ -196,20 +217,4 @@ pub fn junk(rng: &mut Rng) -> Parts {
             lamp: rng.chance(500),
         },
     }
-}
-
-/// Frames, records and tables: least, the program's, others, and now and then
-/// such as fill the words of the stock to the last bit, and the largest.
-fn sizes(rng: &mut Rng) -> (usize, usize, usize) {
-    const SIZES: [(usize, usize, usize); 8] = [
-        (512, 1, 4),
-        (1024, 4, 12),
-        (512, 3, 16),
-        (2048, 2, 5),
-        (4096, 16, 4),
-        (512, 2, 62),
-        (512, 2, 63),
-        (4096, 16, 64),
-    ];
-    SIZES[rng.weighted(&[20, 30, 30, 8, 3, 3, 3, 3])]
 }

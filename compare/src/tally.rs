@@ -6,7 +6,7 @@ use std::fmt::Display;
 use reefnettle_compare::number;
 
 use crate::places::Place;
-use crate::spoil::Spoil;
+use crate::spoil::{Sizes, Spoil, SIZES};
 
 const ANSWERS: u64 = 16;
 const CALLS: u64 = number::READENTRY + 1;
@@ -15,6 +15,7 @@ const CALLS: u64 = number::READENTRY + 1;
 #[derive(Default)]
 pub struct Tally {
     pub cases: u64,
+    windows: BTreeMap<Sizes, u64>,
     spoils: BTreeMap<Spoil, u64>,
     accepted: BTreeMap<u64, u64>,
     answers: BTreeMap<u64, u64>,
@@ -22,6 +23,10 @@ pub struct Tally {
 }
 
 impl Tally {
+    pub fn note_window(&mut self, sizes: Sizes) {
+        *self.windows.entry(sizes).or_default() += 1;
+    }
+
     pub fn note(&mut self, spoil: Spoil, call: u64, answer: u64, place: Option<Place>) {
         self.cases += 1;
         *self.spoils.entry(spoil).or_default() += 1;
@@ -39,6 +44,11 @@ impl Tally {
         println!("cases\t{}", self.cases);
         let met = [
             list(
+                "window",
+                &self.windows,
+                SIZES.map(|(sizes, _)| (sizes, name_of(sizes))),
+            ),
+            list(
                 "spoilt",
                 &self.spoils,
                 Spoil::ALL.map(|s| (s, format!("{s:?}"))),
@@ -49,6 +59,10 @@ impl Tally {
         ];
         met.iter().all(|&met| met)
     }
+}
+
+fn name_of((frames, records, tables): Sizes) -> String {
+    format!("frames {frames}, records {records}, tables {tables}")
 }
 
 fn own_name<T: Display>(item: T) -> (T, String) {

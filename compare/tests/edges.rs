@@ -83,39 +83,39 @@ const CASES: [Case; 43] = [
         true,
     ),
     (
-        "key 48",
-        |p| p.domains[0] = scalars(48, 1, 1, 4, 8, 1),
+        "key 96",
+        |p| p.domains[0] = scalars(96, 1, 1, 4, 8, 1),
         false,
     ),
     (
         "life 4",
-        |p| p.domains[0] = scalars(47, 4, 1, 4, 8, 1),
+        |p| p.domains[0] = scalars(95, 4, 1, 4, 8, 1),
         false,
     ),
-    ("op 3", |p| p.domains[0] = scalars(47, 3, 3, 4, 8, 1), false),
+    ("op 3", |p| p.domains[0] = scalars(95, 3, 3, 4, 8, 1), false),
     (
         "listed 5",
-        |p| p.domains[0] = scalars(47, 3, 2, 5, 8, 1),
+        |p| p.domains[0] = scalars(95, 3, 2, 5, 8, 1),
         false,
     ),
     (
         "children 513",
-        |p| p.domains[0] = scalars(47, 3, 2, 4, 513, 1),
+        |p| p.domains[0] = scalars(95, 3, 2, 4, 513, 1),
         false,
     ),
     (
         "record's epoch 2^32",
-        |p| p.domains[0] = scalars(47, 3, 2, 4, 512, 4294967296),
+        |p| p.domains[0] = scalars(95, 3, 2, 4, 512, 4294967296),
         false,
     ),
     (
         "record's epoch 0",
-        |p| p.domains[0] = scalars(47, 3, 2, 4, 512, 0),
+        |p| p.domains[0] = scalars(95, 3, 2, 4, 512, 0),
         false,
     ),
     (
         "most of all",
-        |p| p.domains[0] = scalars(47, 3, 2, 4, 512, 4294967295),
+        |p| p.domains[0] = scalars(95, 3, 2, 4, 512, 4294967295),
         true,
     ),
     // the last control page, listed or not

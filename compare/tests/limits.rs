@@ -1,6 +1,7 @@
 //! The limits of window, addresses and marks, those of the lamp, and which table
 //! or record is taken. What is expected was written from the paper. Keys, levels
-//! and epochs at their limits are in `sequences.rs` and `edges.rs`.
+//! and epochs at their limits are in `sequences.rs` and `edges.rs`, the last
+//! record and table of the largest sizes in `largest.rs`.
 
 mod common;
 mod words;
@@ -14,6 +15,9 @@ use words::{
 
 /// The replay program's frames.
 const FRAMES: usize = 1024;
+
+/// The most frames of a window.
+const LARGEST: usize = 16384;
 
 /// Records 1 and tables 4, all unused; as many frames as said are in use.
 fn window(base: Hpa, frames: usize, used: usize) -> Parts {
@@ -69,9 +73,9 @@ const WINDOWS: [(Hpa, usize, u64); 10] = [
     (BASE, 256, 13),
     (BASE, 768, 13),
     (BASE, 1024, 0),
-    (BASE, 4095, 13),
-    (BASE, 4096, 0),
-    (BASE, 8192, 13),
+    (BASE, 16383, 13),
+    (BASE, 16384, 0),
+    (BASE, 32768, 13),
     (Hpa(0), FRAMES, 13),
     (Hpa(BASE.0 + FRAME_BYTES), FRAMES, 13),
     (Hpa(1 << 46), FRAMES, 0),
@@ -88,28 +92,35 @@ fn a_reset_takes_frames_and_base_within_their_limits() {
     }
 }
 
+/// Frames, the last one's hpa, and the hpa behind it.
+const LAST_FRAMES: [(usize, Hpa, Hpa); 2] = [
+    (FRAMES, Hpa(1077932032), Hpa(1077936128)),
+    (LARGEST, Hpa(1140846592), Hpa(1140850688)),
+];
+
 #[test]
 fn an_hpa_names_a_frame_of_the_window() {
-    // The first frame is the last one's control page, and the last the first one's page.
-    let (first, last) = (Hpa(1073741824), Hpa(1077932032));
-    let mut lent = window(BASE, FRAMES, 0);
-    lent.frames[0] = frame(TDCX, 1023, 0, 0);
-    lent.frames[1023] = frame(REG, 0, 0, 0);
+    let mut door = common::open_door();
     let read = |kind, owner| Answer {
         kind,
         owner,
         ..Answer::default()
     };
-    let mut door = common::open_door();
-    for (hpa, answer) in [
-        (Hpa(1073737728), bare(1)),
-        (first, read(TDCX, last)),
-        (last, read(REG, first)),
-        (Hpa(1077936128), bare(1)),
-    ] {
-        let readpage = on_frame(number::READPAGE, hpa);
-        let ours = door.ask(&lent, &readpage).unwrap().answer;
-        assert_eq!(ours, answer, "{hpa:?}");
+    for (frames, last, behind) in LAST_FRAMES {
+        // The first frame is the last one's control page, and the last the first one's page.
+        let mut lent = window(BASE, frames, 0);
+        lent.frames[0] = frame(TDCX, frames as u64 - 1, 0, 0);
+        lent.frames[frames - 1] = frame(REG, 0, 0, 0);
+        for (hpa, answer) in [
+            (Hpa(1073737728), bare(1)),
+            (BASE, read(TDCX, last)),
+            (last, read(REG, BASE)),
+            (behind, bare(1)),
+        ] {
+            let readpage = on_frame(number::READPAGE, hpa);
+            let ours = door.ask(&lent, &readpage).unwrap().answer;
+            assert_eq!(ours, answer, "frames {frames}, {hpa:?}");
+        }
     }
 }
 
@@ -170,54 +181,58 @@ fn marks_in_rule_are_set_and_others_refused() {
     }
 }
 
-/// The program's marks, and the fill of so many frames.
-fn gauge(used: usize, lamp: bool) -> Gauge {
+/// The program's marks, and the fill of so many of the frames.
+fn gauge(used: usize, frames: usize, lamp: bool) -> Gauge {
     Gauge {
         raise: 0.75,
         clear: 0.5,
-        fill: used as f64 / FRAMES as f64,
+        fill: used as f64 / frames as f64,
         lamp,
     }
 }
 
-/// The gauge after an ask that is accepted, with so many frames in use.
-fn gauge_after(door: &mut Door, request: Request, used: usize, gauge: Gauge) -> Gauge {
-    let lent = Parts {
-        gauge,
-        ..window(BASE, FRAMES, used)
-    };
+/// The gauge after an ask that is accepted, in a window of which some is in use.
+fn gauge_after(door: &mut Door, request: Request, window: Parts, gauge: Gauge) -> Gauge {
+    let lent = Parts { gauge, ..window };
     let asked = door.ask(&lent, &request).unwrap();
     assert_eq!(asked.answer.number, 0);
     asked.lent.gauge
 }
 
+/// Frames, those at the raise mark, and those at the clear mark.
+const LAMPS: [(usize, usize, usize); 2] = [(FRAMES, 768, 512), (LARGEST, 12288, 8192)];
+
 #[test]
 fn the_lamp_is_lit_at_raise_and_put_out_below_clear() {
     let mut door = common::open_door();
-    for (used, lamp) in [(767, false), (768, true)] {
-        let set = set_marks(0.75, 0.5);
-        let after = gauge_after(&mut door, set, used, gauge(0, !lamp));
-        assert_eq!(after, gauge(used, lamp));
-    }
-    let mut before = gauge(767, false);
-    for (used, lamp) in [
-        (767, false),
-        (768, true),
-        (512, true),
-        (511, false),
-        (767, false),
-    ] {
-        let readpage = on_frame(number::READPAGE, BASE);
-        let after = gauge_after(&mut door, readpage, used, before);
-        assert_eq!(after, gauge(used, lamp));
-        before = after;
+    for (frames, raise, clear) in LAMPS {
+        for (used, lamp) in [(raise - 1, false), (raise, true)] {
+            let set = set_marks(0.75, 0.5);
+            let before = gauge(0, frames, !lamp);
+            let after = gauge_after(&mut door, set, window(BASE, frames, used), before);
+            assert_eq!(after, gauge(used, frames, lamp));
+        }
+        let mut before = gauge(raise - 1, frames, false);
+        for (used, lamp) in [
+            (raise - 1, false),
+            (raise, true),
+            (clear, true),
+            (clear - 1, false),
+            (raise - 1, false),
+        ] {
+            let readpage = on_frame(number::READPAGE, BASE);
+            let after = gauge_after(&mut door, readpage, window(BASE, frames, used), before);
+            assert_eq!(after, gauge(used, frames, lamp));
+            before = after;
+        }
     }
 }
 
 #[test]
 fn a_reset_leaves_a_fresh_gauge() {
     let mut door = common::open_door();
-    let after = gauge_after(&mut door, Request::default(), 768, gauge(768, true));
+    let (used, before) = (window(BASE, FRAMES, 768), gauge(768, FRAMES, true));
+    let after = gauge_after(&mut door, Request::default(), used, before);
     assert_eq!(after, Gauge::FRESH);
     assert_eq!(after.fill.to_bits(), 0, "the fill is +0");
 }
@@ -297,66 +312,6 @@ fn the_lowest_unused_record_is_taken_and_wiped() {
             after
         });
         assert_takes(&mut door, &create, &lent, taken);
-    }
-}
-
-/// Frames 512, records 16 and tables as said, with a live domain in record 0;
-/// which blocks are in use is said too.
-fn two_words(tables: usize, in_use: impl Fn(usize) -> bool) -> Parts {
-    let mut lent = window(BASE, 512, 5);
-    lent.frames[0] = frame(TDR, 0, 0, 0);
-    lent.domains = [scalars(32, 3, 0, 0, 0, 1), 0, 0, 0, 0].repeat(16); // in teardown: their key is free
-    lent.domains[..5].copy_from_slice(&[scalars(32, 1, 1, 4, 4, 1), 1, 2, 3, 4]);
-    lent.stock = vec![0; 2];
-    lent.entries = vec![0; 512 * (tables + 16)];
-    for block in (0..tables + 16).filter(|&block| in_use(block)) {
-        lent.stock[block / 64] |= 1 << (block % 64);
-    }
-    lent
-}
-
-/// The number in the word of frame 9, once it was taken; none at answer 11.
-fn number_taken(door: &mut Door, request: &Request, lent: &Parts) -> Option<u64> {
-    let asked = door.ask(lent, request).unwrap();
-    match asked.answer.number {
-        0 => Some(asked.lent.frames[9] >> 17 & 0xff),
-        number => {
-            assert_eq!(number, 11);
-            assert!(asked.lent == *lent);
-            None
-        }
-    }
-}
-
-/// Each place for the lowest unused one, nothing behind it in use and all of it.
-#[test]
-fn the_lowest_unused_one_is_found_in_a_full_word_and_across_two() {
-    let mut door = common::open_door();
-    let create = Request {
-        key: Key(47),
-        ..on_frame(number::CREATE, at(9))
-    };
-    let septadd = Request {
-        frame: at(9),
-        ..on_tree(number::SEPTADD, Gpa(0), Level(3))
-    };
-    for all_behind in [false, true] {
-        // The tables fill the first word.
-        for lowest in 0..=64 {
-            let lent = two_words(64, |block| {
-                block == 64 || block < lowest || all_behind && block > lowest
-            });
-            let found = (lowest < 64).then_some(lowest as u64);
-            assert_eq!(number_taken(&mut door, &septadd, &lent), found);
-        }
-        // Records 0 to 3 have the last bits of the first word.
-        for lowest in 1..=16 {
-            let lent = two_words(60, |block| {
-                block < 60 + lowest || all_behind && block > 60 + lowest
-            });
-            let found = (lowest < 16).then_some(lowest as u64);
-            assert_eq!(number_taken(&mut door, &create, &lent), found);
-        }
     }
 }
 

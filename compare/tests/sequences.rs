@@ -202,8 +202,8 @@ fn operands() -> Vec<Step> {
         ask(create(Hpa(262144), Key(32))),
         ask(create(at(512), Key(32))),
         ask(create(at(0), Key(31))),
-        ask(create(at(0), Key(48))),
-        ask(create(at(511), Key(47))),
+        ask(create(at(0), Key(96))),
+        ask(create(at(511), Key(95))),
         ask(Request {
             domain: at(511),
             ..block(Gpa(2093056), Level(1))

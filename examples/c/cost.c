@@ -1,4 +1,4 @@
-/* What a call costs: its time on tables of three sizes, with no block in use and with all, and the most stack that any
+/* What a call costs: its time on tables of four sizes, with no block in use and with all, and the most stack that any
  * call takes. cost CALLS says over how many calls each time is taken. It fails if a call takes more stack than the header
  * says. */
 #include <stdio.h>
@@ -161,6 +161,7 @@ int main(int words, char **word)
     time_sizes(512, 1, 4, calls);
     time_sizes(1024, 4, 12, calls);
     time_sizes(4096, 16, 64, calls);
+    time_sizes(REEFNETTLE_FRAMES_MOST, REEFNETTLE_RECORDS_MOST, REEFNETTLE_TABLES_MOST, calls);
     const size_t stack_bytes = most_stack_bytes();
     printf("stack of one call: bytes %zu at most\n", stack_bytes);
     return stack_bytes <= STACK_BYTES_PROMISED ? 0 : 1;

@@ -37,4 +37,5 @@ AT(reefnettle_answer, hpa, 40);
 
 _Static_assert(REEFNETTLE_LENT_BYTES(512, 1, 4) == 14384, "least sizes");
 _Static_assert(REEFNETTLE_LENT_BYTES(1024, 4, 12) == 41128, "the program's sizes");
-_Static_assert(REEFNETTLE_LENT_BYTES(4096, 16, 64) == 197264, "largest sizes");
+_Static_assert(REEFNETTLE_LENT_BYTES(REEFNETTLE_FRAMES_MOST, REEFNETTLE_RECORDS_MOST, REEFNETTLE_TABLES_MOST) == 789032,
+               "largest sizes");

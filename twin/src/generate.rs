@@ -74,9 +74,15 @@ impl Kind {
     }
 }
 
-/// Writes a script: the same seed, length and kind give the same bytes.
+/// Writes a script for the replay program: the same seed, length and kind give
+/// the same bytes.
 pub fn generate(seed: u64, lines: u64, kind: Kind) -> Vec<u8> {
-    let mut generator = Generator::new(seed, kind);
+    generate_on(replay_machine(), seed, lines, kind)
+}
+
+/// The same for a fresh machine of any sizes and marks.
+pub fn generate_on(machine: Machine, seed: u64, lines: u64, kind: Kind) -> Vec<u8> {
+    let mut generator = Generator::new(machine, seed, kind);
     let mut script = Vec::new();
     for number in 1..=lines {
         let line = generator.next_line();
@@ -133,20 +139,21 @@ struct Tree {
 }
 
 impl Generator {
-    fn new(seed: u64, kind: Kind) -> Self {
+    fn new(machine: Machine, seed: u64, kind: Kind) -> Self {
         // Kinds with the same seed shall not run alike.
         let mut rng = Rng::new(seed ^ ((kind as u64 + 1) << 56));
         let mut keys: Vec<u64> = (KEY_LOWEST..=KEY_HIGHEST).collect();
         if kind == Kind::Churn {
             // Few keys, so that they are taken and freed again.
-            for _ in 0..rng.below(12) {
+            let few = 5 + rng.index(12);
+            while keys.len() > few {
                 let drop = rng.index(keys.len());
                 keys.swap_remove(drop);
             }
         }
         let mut generator = Generator {
             rng,
-            machine: replay_machine(),
+            machine,
             kind,
             keys,
             goal: 0,
@@ -161,7 +168,7 @@ impl Generator {
             1 => self.miss().line(),
             2 => {
                 let call = self.any_call();
-                spoil::operand(&mut self.rng, call)
+                spoil::operand(&mut self.rng, &self.machine, call)
             }
             _ => {
                 let call = self.any_call();
@@ -208,20 +215,26 @@ impl Generator {
         self.step_domain(tdr)
     }
 
-    /// Goals on and around the marks, and at both ends.
+    /// Goals on and around the replay's marks, and at both ends.
     fn new_goal(&mut self) -> usize {
-        const GOALS: [usize; 12] = [1024, 1023, 900, 770, 769, 768, 767, 513, 512, 511, 510, 300];
+        let all = self.machine.frames.len();
+        let (raise, clear) = (all / 4 * 3, all / 2);
         let near = |used: usize, goal: usize| used.abs_diff(goal) <= 3;
         let used = self.machine.used;
         // A few lines to and fro over a mark, then somewhere else.
-        if (near(used, 768) || near(used, 512)) && self.rng.chance(700) {
+        if (near(used, raise) || near(used, clear)) && self.rng.chance(700) {
             return used + 2 - self.rng.index(5);
         }
-        let goal = GOALS[self.rng.index(GOALS.len())];
-        if used < 512 {
-            goal.max(768 + self.rng.index(40))
-        } else if used > 768 && self.rng.chance(500) {
-            400 + self.rng.index(112)
+        let about = |mark: usize| [mark + 2, mark + 1, mark, mark - 1];
+        let ends = [all, all - 1, all / 8 * 7, all / 8 * 3];
+        let goal = self
+            .rng
+            .pick(&[ends, about(raise), about(clear - 1)].concat())
+            .expect("there are goals");
+        if used < clear {
+            goal.max(raise + self.rng.index(40))
+        } else if used > raise && self.rng.chance(500) {
+            clear - 1 - self.rng.index(112)
         } else {
             goal
         }

@@ -27,7 +27,7 @@ mod state;
 pub use answer::{Answer, Readout, Refusal};
 pub use calls::Call;
 pub use gauge::Gauge;
-pub use generate::{generate, Kind};
+pub use generate::{generate, generate_on, Kind};
 pub use levels::{GPA_LIMIT, LEVEL_SHIFT, TOP_LEVEL};
 pub use range::{BASE_ALIGNMENT, BASE_HIGHEST, BASE_LOWEST, EPOCH_LIMIT, KEY_HIGHEST, KEY_LOWEST};
 pub use replay::{

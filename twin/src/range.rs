@@ -13,7 +13,7 @@ pub const BASE_ALIGNMENT: u64 = 1 << 30;
 /// Lowest key.
 pub const KEY_LOWEST: u64 = 32;
 /// Highest key.
-pub const KEY_HIGHEST: u64 = 47;
+pub const KEY_HIGHEST: u64 = 95;
 /// Highest epoch.
 pub const EPOCH_LIMIT: u64 = (1 << 32) - 1;
 
@@ -29,9 +29,9 @@ impl Machine {
     pub fn sizes_in_range(&self) -> bool {
         let frames = self.frames.len();
         frames.is_power_of_two()
-            && (512..=4096).contains(&frames)
-            && (1..=16).contains(&self.records.len())
-            && (4..=64).contains(&self.tables.len())
+            && (512..=16384).contains(&frames)
+            && (1..=64).contains(&self.records.len())
+            && (4..=256).contains(&self.tables.len())
             && (BASE_LOWEST..=BASE_HIGHEST).contains(&self.base)
             && self.base.is_multiple_of(BASE_ALIGNMENT)
     }

@@ -82,7 +82,7 @@ fn tracked_or_not() {
 fn keys_at_their_ends() {
     let machine = replay_machine();
     let create = |key| number(&machine, Call::Create { page: D, key });
-    assert_eq!([31, 32, 47, 48].map(create), [1, 0, 0, 1]);
+    assert_eq!([31, 32, 95, 96].map(create), [1, 0, 0, 1]);
     assert_eq!([0, 32 + 256, 32 + (1 << 32), u64::MAX].map(create), [1; 4]);
 }
 
@@ -91,7 +91,7 @@ fn the_same_tdr_twice_at_addcx() {
     let mut machine = replay_machine();
     let domain = D;
     let addcx = Call::AddCx { domain, page: D };
-    accept(&mut machine, Call::Create { page: D, key: 47 });
+    accept(&mut machine, Call::Create { page: D, key: 95 });
     refuse(&mut machine, addcx, 3);
     accept(&mut machine, Call::KeyConfig { domain });
     refuse(&mut machine, addcx, 2);
@@ -104,7 +104,7 @@ fn the_same_tdr_twice_at_addcx() {
 
 #[test]
 fn frames_at_the_windows_ends() {
-    for (base, frames) in [(GIB, 512), (GIB, 4096), (1 << 46, 1024), (3 * GIB, 2048)] {
+    for (base, frames) in [(GIB, 512), (GIB, 16384), (1 << 46, 1024), (3 * GIB, 2048)] {
         let mut machine = Machine::with_sizes(base, frames, 1, 4);
         assert_eq!(machine.reset().number, 0);
         let read = |page| number(&machine, Call::ReadPage { page });

@@ -22,7 +22,7 @@ fn next(number: f64, step: i64) -> f64 {
 
 #[test]
 fn every_share_and_its_neighbours() {
-    for frames in [512, 1024, 2048, 4096] {
+    for frames in [512, 1024, 2048, 4096, 8192, 16384] {
         for k in 0..=frames {
             let share = k as f64 / frames as f64;
             assert!(marks_in_rule(1.0, share, frames));

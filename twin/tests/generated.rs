@@ -3,8 +3,8 @@
 use std::collections::BTreeSet;
 
 use reefnettle_twin::{
-    entry_state, frame_type, generate, lifecycle, parse, replay, replay_machine, Entry, Kind,
-    Machine, Readout, Record,
+    entry_state, frame_type, generate, generate_on, lifecycle, parse, replay, replay_machine,
+    Entry, Kind, Machine, Readout, Record, REPLAY_BASE, REPLAY_CLEAR, REPLAY_RAISE,
 };
 
 fn lines(script: &[u8]) -> Vec<&[u8]> {
@@ -88,10 +88,10 @@ fn check_ownership(machine: &Machine) {
     }
     records.sort_unstable();
     tables.sort_unstable();
-    let used_records: Vec<u64> = (0..4)
+    let used_records: Vec<u64> = (0..machine.records.len() as u64)
         .filter(|&n| machine.records[n as usize].in_use)
         .collect();
-    let used_tables: Vec<u64> = (0..12)
+    let used_tables: Vec<u64> = (0..machine.tables.len() as u64)
         .filter(|&n| machine.tables[n as usize].in_use)
         .collect();
     assert_eq!(records, used_records);
@@ -106,20 +106,43 @@ fn check_ownership(machine: &Machine) {
     assert_eq!(used.count(), machine.used_frames());
 }
 
+/// A fresh machine of the largest sizes, with the replay's marks.
+fn largest_machine() -> Machine {
+    let mut machine = Machine::with_sizes(REPLAY_BASE, 16384, 64, 256);
+    assert!(machine.reset().is_accepted());
+    assert!(machine.set_marks(REPLAY_RAISE, REPLAY_CLEAR).is_accepted());
+    machine
+}
+
+/// Runs a script of that machine, and looks at it once in so many lines.
+fn check_script(mut machine: Machine, script: &[u8], once_in: usize) -> Machine {
+    check_ownership(&machine);
+    for (number, line) in lines(script).into_iter().enumerate() {
+        if let Some(call) = parse(line) {
+            machine.call_unchecked(call);
+        }
+        if number % once_in == 0 {
+            check_ownership(&machine);
+        }
+    }
+    machine
+}
+
 #[test]
 fn ownership_after_every_line() {
     for kind in Kind::ALL {
         for seed in 0..4 {
-            let script = generate(seed, 4_000, kind);
-            let mut machine = replay_machine();
-            check_ownership(&machine);
-            for line in lines(&script) {
-                if let Some(call) = parse(line) {
-                    machine.call_unchecked(call);
-                    check_ownership(&machine);
-                }
-            }
+            check_script(replay_machine(), &generate(seed, 4_000, kind), 1);
         }
+    }
+}
+
+#[test]
+fn ownership_at_the_largest_sizes() {
+    for kind in Kind::ALL {
+        let script = generate_on(largest_machine(), 1, 10_000, kind);
+        let machine = check_script(largest_machine(), &script, 50);
+        assert!(machine.in_range(), "{}", kind.name());
     }
 }
 

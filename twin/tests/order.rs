@@ -142,7 +142,7 @@ fn operands_before_all_but_13() {
         },
         Call::Create {
             page: hpa(1),
-            key: 48,
+            key: 96,
         },
         Call::Track { domain: D - 4096 },
         Call::Reclaim { page: 0 },

@@ -85,16 +85,16 @@ fn sizes_and_base() {
         assert_eq!(machine.set_marks(1.0, 0.0).number, expected);
         assert!(machine == fresh);
     };
-    for frames in [512, 1024, 2048, 4096] {
+    for frames in [512, 1024, 2048, 4096, 8192, 16384] {
         judge(GIB, frames, 4, 12, true);
     }
-    for frames in [0, 1, 256, 511, 513, 768, 1023, 1536, 4095, 4097, 8192] {
+    for frames in [0, 1, 256, 511, 513, 768, 1023, 1536, 16383, 16385, 32768] {
         judge(GIB, frames, 4, 12, false);
     }
-    for (records, in_range) in [(0, false), (1, true), (16, true), (17, false)] {
+    for (records, in_range) in [(0, false), (1, true), (64, true), (65, false)] {
         judge(GIB, 512, records, 12, in_range);
     }
-    for (tables, in_range) in [(0, false), (3, false), (4, true), (64, true), (65, false)] {
+    for (tables, in_range) in [(0, false), (3, false), (4, true), (256, true), (257, false)] {
         judge(GIB, 512, 4, tables, in_range);
     }
     for base in [GIB, 2 * GIB, 3 * GIB, (1 << 46) - GIB, 1 << 46] {
@@ -170,7 +170,7 @@ fn frames() {
 #[test]
 fn records() {
     for number in [0, 1] {
-        ends("key", 32, 47, |m| &mut m.records[number].key);
+        ends("key", 32, 95, |m| &mut m.records[number].key);
         ends("lifecycle", 0, 3, |m| &mut m.records[number].lifecycle);
         ends("op state", 0, 2, |m| &mut m.records[number].op_state);
         ends("child count", 0, 1024, |m| {

@@ -1,4 +1,5 @@
--- Document 01, "Sizes, unit first": the limits, each once.
+-- Document 01, "Sizes, unit first": the limits, each once. Request 6 raised four of them: "16384 frames, 64 records, 256 tables and keys 32
+-- to 95."
 use Rattle.base_rules.specs.Basics.{ℕ, _-_, _%_, _^_, Bool, false, eqb, leb, need}
 use lib.Count.{ones}
 use Rattle.base_units.specs.declared.address.Hpa.{Hpa}
@@ -11,12 +12,12 @@ between least n most = need (leb least n) false (leb n most)
 abbrev pub frameBytes : ℕ
 frameBytes = 4096
 
--- "Frames in the window: a power of two, 512 to 4096": two to the exponents 9 to 12. A power of two has one one bit.
+-- "Frames in the window: a power of two, 512 to" 16384: two to the exponents 9 to 14. A power of two has one one bit.
 abbrev pub leastExponent : ℕ
 leastExponent = 9
 
 abbrev pub mostExponent : ℕ
-mostExponent = 12
+mostExponent = 14
 
 abbrev pub framesLeast : ℕ
 framesLeast = 2 ^ leastExponent
@@ -31,12 +32,12 @@ framesOk n = need (eqb (ones n) 1) false (between framesLeast n framesMost)
 unfoldable pub baseOk : Hpa → Bool
 baseOk base = need (eqb (base .0 % 2 ^ 30) 0) false (between (2 ^ 30) (base .0) (2 ^ 46))
 
--- "Domain records in stock: 1 to 16. Secure EPT tables in stock: 4 to 64, each 512 entries."
+-- "Domain records in stock: 1 to" 64. "Secure EPT tables in stock: 4 to" 256, "each 512 entries."
 abbrev pub recordsLeast : ℕ
 recordsLeast = 1
 
 abbrev pub recordsMost : ℕ
-recordsMost = 16
+recordsMost = 64
 
 abbrev pub recordsOk : ℕ → Bool
 recordsOk n = between recordsLeast n recordsMost
@@ -45,7 +46,7 @@ abbrev pub tablesLeast : ℕ
 tablesLeast = 4
 
 abbrev pub tablesMost : ℕ
-tablesMost = 64
+tablesMost = 256
 
 abbrev pub tablesOk : ℕ → Bool
 tablesOk n = between tablesLeast n tablesMost
@@ -53,12 +54,12 @@ tablesOk n = between tablesLeast n tablesMost
 abbrev pub tableEntries : ℕ
 tableEntries = 512
 
--- "Keys (HKID): 32 to 47. Control pages (TDCX) of a domain: 4."
+-- "Keys (HKID): 32 to" 95. "Control pages (TDCX) of a domain: 4."
 abbrev pub keyLeast : ℕ
 keyLeast = 32
 
 abbrev pub keyMost : ℕ
-keyMost = 47
+keyMost = 95
 
 abbrev pub keyOk : ℕ → Bool
 keyOk k = between keyLeast k keyMost

@@ -1,4 +1,4 @@
-// Document 01, "Sizes, unit first". Every limit is inclusive; request 6 will raise four of them here and in specs/Limits.antt.
+// Document 01, "Sizes, unit first", with the four limits that request 6 raised. Every limit is inclusive.
 ghost use mathlib.Core.Path.{_≡_};
 ghost use Rattle.base_units.specs.Limits.{between, baseOk, framesOk, recordsOk, tablesOk, keyOk, epochOk};
 use crate::address::Hpa;
@@ -7,7 +7,7 @@ pub const FRAME_BYTES: u64 = 4096;
 
 pub const FRAMES_LEAST: u64 = 512;
 
-pub const FRAMES_MOST: u64 = 4096;
+pub const FRAMES_MOST: u64 = 16384;
 
 pub const BASE_STEP_BYTES: u64 = 1073741824;
 
@@ -17,11 +17,11 @@ pub const BASE_MOST_BYTES: u64 = 70368744177664;
 
 pub const RECORDS_LEAST: u64 = 1;
 
-pub const RECORDS_MOST: u64 = 16;
+pub const RECORDS_MOST: u64 = 64;
 
 pub const TABLES_LEAST: u64 = 4;
 
-pub const TABLES_MOST: u64 = 64;
+pub const TABLES_MOST: u64 = 256;
 
 pub const TABLE_ENTRIES: usize = 512;
 
@@ -31,7 +31,7 @@ pub const RECORD_WORDS: usize = 5;
 
 pub const KEY_LEAST: u64 = 32;
 
-pub const KEY_MOST: u64 = 47;
+pub const KEY_MOST: u64 = 95;
 
 pub const EPOCH_LEAST: u64 = 1;
 

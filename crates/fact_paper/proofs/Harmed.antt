@@ -8,11 +8,11 @@ use Rattle.fact_cases.specs.Cases.{base, run}
 use Rattle.fact_cases.proofs.Open.{call-open}
 use Rattle.fact_paper.specs.Harmed.{Harm, AllSo, all, harmed}
 
-unfoldable so : List Harm → Bool
+unfoldable pub so : List Harm → Bool
 so [] = true
 so (h ∷ hs) = need (eqb (numberOf (carried (h .tables) (planOf base (h .tables) (h .then)) .answer)) (h .says)) false (so hs)
 
-all-so : (hs : List Harm) → so hs ≡ true → AllSo hs
+pub all-so : (hs : List Harm) → so hs ≡ true → AllSo hs
 unfolding so AllSo ruleOf settled
 all-so [] e = tt
 all-so (h ∷ hs) e =

@@ -18,12 +18,12 @@ stopped n level state = record { number = n; kind = 0; owner = hpa 0; level = le
 abbrev pub frame : ℕ → Hpa
 frame n = hpa (2 ^ 30 + 4096 * n)
 
--- ---- "Keys (HKID): 32 to 47", and the window of 1024 frames from its base
+-- ---- "Keys (HKID): 32 to" 95, and the window of 1024 frames from its base
 abbrev pub ends : List Case
 ends =
     case [] (Call.Create D 31) (no 1)
-    ∷ case [] (Call.Create D 47) (no 0)
-    ∷ case [] (Call.Create D 48) (no 1)
+    ∷ case [] (Call.Create D 95) (no 0)
+    ∷ case [] (Call.Create D 96) (no 1)
     ∷ case [] (Call.Create (frame 1023) 32) (no 0)
     ∷ case [] (Call.Create (frame 1024) 32) (no 1)
     ∷ []
@@ -71,11 +71,11 @@ numbered = ends ++ (types ++ (states ++ bits))
 
 -- ---- "Sizes, unit first": the last number that fits, and the first that doesn't
 pub record Limits : Type 0 where
-  pub frames : (framesOk 512 ≡ true) × ((framesOk 256 ≡ false) × ((framesOk 768 ≡ false) × ((framesOk 4096 ≡ true) × (framesOk 8192 ≡ false))))
+  pub frames : (framesOk 512 ≡ true) × ((framesOk 256 ≡ false) × ((framesOk 768 ≡ false) × ((framesOk 16384 ≡ true) × (framesOk 32768 ≡ false))))
   pub base : (baseOk (hpa (2 ^ 30)) ≡ true) × ((baseOk (hpa (2 ^ 46)) ≡ true) × ((baseOk (hpa 0) ≡ false) × (baseOk (hpa (2 ^ 46 + 2 ^ 30)) ≡ false)))
   pub aligned : baseOk (hpa (2 ^ 30 + 2 ^ 29)) ≡ false
-  pub records : (recordsOk 1 ≡ true) × ((recordsOk 16 ≡ true) × ((recordsOk 0 ≡ false) × (recordsOk 17 ≡ false)))
-  pub tables : (tablesOk 4 ≡ true) × ((tablesOk 64 ≡ true) × ((tablesOk 3 ≡ false) × (tablesOk 65 ≡ false)))
+  pub records : (recordsOk 1 ≡ true) × ((recordsOk 64 ≡ true) × ((recordsOk 0 ≡ false) × (recordsOk 65 ≡ false)))
+  pub tables : (tablesOk 4 ≡ true) × ((tablesOk 256 ≡ true) × ((tablesOk 3 ≡ false) × (tablesOk 257 ≡ false)))
   pub epochs : (epochOk 1 ≡ true) × ((epochOk 4294967295 ≡ true) × ((epochOk 0 ≡ false) × (epochOk 4294967296 ≡ false)))
 
 -- ---- docs/TABLES.md: each field of a lent word at its bits, and the codes that no call reads out

@@ -21,7 +21,7 @@ program = record { frames = 1024; records = 4; tables = 12 }
 abbrev pub frame : ℕ → Bool
 frame w = frameOk program (w ∷ []) 0
 
-abbrev word : ℕ → ℕ → ℕ → ℕ → ℕ → ℕ
+abbrev pub word : ℕ → ℕ → ℕ → ℕ → ℕ → ℕ
 word kind owner number epoch size = kind + 2 ^ 3 * owner + 2 ^ 17 * number + 2 ^ 25 * epoch + 2 ^ 57 * size
 
 abbrev pub frames : List ℕ
@@ -59,26 +59,26 @@ noFrames =
 abbrev pub entry : ℕ → Bool
 entry w = entryOk 1024 (w ∷ []) 0 0
 
-abbrev at : ℕ → ℕ → ℕ
+abbrev pub at : ℕ → ℕ → ℕ
 at state frame = state + 2 ^ 3 * frame
 
 -- ---- a record: key, lifecycle, op state, listed pages, children, epoch and width; then its control pages
 abbrev pub kept : List ℕ → Bool
 kept ws = recordOk 1024 ws 0
 
-abbrev scalars : ℕ → ℕ → ℕ → ℕ → ℕ → ℕ → ℕ → ℕ
+abbrev pub scalars : ℕ → ℕ → ℕ → ℕ → ℕ → ℕ → ℕ → ℕ
 scalars key life op listed children epoch width = key + 2 ^ 7 * life + 2 ^ 10 * op + 2 ^ 12 * listed + 2 ^ 15 * children + 2 ^ 30 * epoch + 2 ^ 62 * width
 
 abbrev pub bare : ℕ → List ℕ
 bare w = w ∷ 0 ∷ 0 ∷ 0 ∷ 0 ∷ []
 
 abbrev pub records : List (List ℕ)
-records = bare (scalars 32 0 0 0 0 1 0) ∷ (scalars 47 3 2 4 1024 (2 ^ 32 - 1) 0 ∷ 1023 ∷ 0 ∷ 5 ∷ 7 ∷ []) ∷ []
+records = bare (scalars 32 0 0 0 0 1 0) ∷ (scalars 95 3 2 4 1024 (2 ^ 32 - 1) 0 ∷ 1023 ∷ 0 ∷ 5 ∷ 7 ∷ []) ∷ []
 
 abbrev pub noRecords : List (List ℕ)
 noRecords =
     bare (scalars 31 0 0 0 0 1 0)
-    ∷ bare (scalars 48 0 0 0 0 1 0)
+    ∷ bare (scalars 96 0 0 0 0 1 0)
     ∷ bare (scalars 32 4 0 0 0 1 0)
     ∷ bare (scalars 32 0 3 0 0 1 0)
     ∷ bare (scalars 32 0 0 5 0 1 0)

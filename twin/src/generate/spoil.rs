@@ -3,13 +3,13 @@
 use crate::calls::Call;
 use crate::levels::{GPA_LIMIT, LEVEL_SHIFT};
 use crate::range::{KEY_HIGHEST, KEY_LOWEST};
-use crate::replay::{REPLAY_BASE, REPLAY_FRAMES};
+use crate::replay::REPLAY_BASE;
 use crate::rng::Rng;
 use crate::script::{write_line, Operand, Unit, MAX_LINE};
-use crate::state::FRAME_BYTES;
+use crate::state::{Machine, FRAME_BYTES};
 
 /// The line of a call with one of its numbers, seldom two, put out of rule.
-pub fn operand(rng: &mut Rng, call: Call) -> Vec<u8> {
+pub fn operand(rng: &mut Rng, machine: &Machine, call: Call) -> Vec<u8> {
     let (name, mut operands) = call.parts();
     let level = level_of(&operands);
     let times = if rng.chance(150) { 2 } else { 1 };
@@ -17,7 +17,7 @@ pub fn operand(rng: &mut Rng, call: Call) -> Vec<u8> {
         let index = rng.index(operands.len());
         let Operand { unit, number } = operands[index];
         operands[index].number = match unit {
-            Unit::Hpa => bad_hpa(rng, number),
+            Unit::Hpa => bad_hpa(rng, machine, number),
             Unit::Gpa => bad_gpa(rng, number, level),
             Unit::Level => bad_level(rng, number, name),
             Unit::Key => bad_key(rng, number),
@@ -31,8 +31,8 @@ fn level_of(operands: &[Operand]) -> usize {
     level.map_or(0, |operand| operand.number.min(3) as usize)
 }
 
-fn bad_hpa(rng: &mut Rng, hpa: u64) -> u64 {
-    let window = FRAME_BYTES * REPLAY_FRAMES as u64;
+fn bad_hpa(rng: &mut Rng, machine: &Machine, hpa: u64) -> u64 {
+    let (base, end) = (machine.base, machine.hpa(machine.frames.len()));
     match rng.below(16) {
         0 => hpa.wrapping_add(1),
         1 => hpa.wrapping_add(2048),
@@ -40,11 +40,11 @@ fn bad_hpa(rng: &mut Rng, hpa: u64) -> u64 {
         3 => hpa.wrapping_sub(1),
         // A frame number in place of an address.
         4 => hpa / FRAME_BYTES,
-        5 => hpa.wrapping_sub(REPLAY_BASE) / FRAME_BYTES,
-        6 => hpa.wrapping_sub(REPLAY_BASE),
-        7 => REPLAY_BASE - FRAME_BYTES,
-        8 => REPLAY_BASE + window,
-        9 => REPLAY_BASE + window - 1,
+        5 => hpa.wrapping_sub(base) / FRAME_BYTES,
+        6 => hpa.wrapping_sub(base),
+        7 => base - FRAME_BYTES,
+        8 => end,
+        9 => end - 1,
         10 => 0,
         11 => u64::MAX,
         12 => u64::MAX - 4095,

@@ -1,0 +1,52 @@
+-- Request 6's cases are answered as it says, and the lent words have room.
+use Rattle.base_rules.specs.Basics.{choose, given}
+use Rattle.base_rules.proofs.Facts.{refl, arith, lit≤, lit<}
+use lib.{Count.ones, Ieee.div, Ieee.ofInt, Ieee.le, Ieee.lt}
+use Rattle.base_units.specs.Limits.{between, framesOk, baseOk}
+use Rattle.book_gauge.specs.Update.{lampAfter}
+use Rattle.book_gauge.proofs.Laws.{of-marks}
+use Rattle.book_ledger.specs.{Sizes.tablesOf, Sizes.sizesOf, Sizes.lengthsOk, Sizes.sizesOk}
+use Rattle.book_ledger.proofs.Packing.{frame-back, domain-back, entry-back}
+use Rattle.book_range.specs.Range.{frameLimits, frameOk, entryOk, pageOk, pagesOk, domainOk, recordOk}
+use Rattle.fact_keeps.proofs.{Ranged.of-lent, Fresh.zeros-lent}
+use Rattle.fact_cases.specs.Cases.{base, run}
+use Rattle.fact_cases.proofs.Open.{call-open}
+use Rattle.fact_paper.specs.{Harmed.AllSo, Harmed.all, Ranges.all as allIn, Ranges.none as noneIn}
+use Rattle.fact_paper.proofs.Harmed.{so, all-so}
+use Rattle.fact_largest.specs.Largest.{fresh, ends, rows, tables, none, Taken, Ranged, Room}
+
+pub ends-right : AllSo ends
+unfolding all so call-open
+ends-right = all-so ends refl
+
+pub none-right : AllSo none
+unfolding all so rows tables call-open
+none-right = all-so none refl
+
+pub taken : Taken
+unfolding run rows tables call-open
+taken = record { created = refl; recordTaken = refl; added = refl; tableTaken = refl; tableBack = refl; recordBack = refl }
+
+pub ranged : Ranged
+unfolding sizesOk lengthsOk framesOk baseOk ones lampAfter div ofInt le lt allIn noneIn frameLimits frameOk entryOk pageOk pagesOk domainOk recordOk call-open
+ranged = record {
+  lent = of-lent base fresh (zeros-lent base fresh refl);
+  framesIn = refl;
+  framesOut = refl;
+  entriesIn = refl;
+  entriesOut = refl;
+  recordsIn = refl;
+  recordsOut = refl;
+  marks = of-marks 16384 refl _ _ (record { high = (12288, lit≤ tt, refl); low = (8192, lit≤ tt, refl); order = lit≤ tt; above = lit< tt });
+  lit = λ was. refl;
+  stays = λ was. refl;
+  out = λ was. refl;
+}
+
+pub room : Room
+room = record {
+  frame = λ f a b c d e. frame-back f (omega arith);
+  tdr = λ f a b c d e. frame-back f (omega arith);
+  domain = λ d a b c e f g h. domain-back d (omega arith);
+  entry = λ e a b. entry-back e (omega arith);
+}
