@@ -11,20 +11,20 @@ use Rattle.book_range.specs.Range.{frameLimits, frameOk, entryOk, pageOk, pages
 use Rattle.fact_keeps.proofs.{Ranged.of-lent, Fresh.zeros-lent}
 use Rattle.fact_cases.specs.Cases.{base, run}
 use Rattle.fact_cases.proofs.Open.{call-open}
-use Rattle.fact_paper.specs.{Harmed.AllSo, Harmed.all, Ranges.all as allIn, Ranges.none as noneIn}
-use Rattle.fact_paper.proofs.Harmed.{so, all-so}
-use Rattle.fact_largest.specs.Largest.{fresh, ends, rows, tables, none, Taken, Ranged, Room}
+use Rattle.fact_paper.specs.{Harmed.AllSay, Harmed.eachSays, Ranges.allIn, Ranges.noneIn}
+use Rattle.fact_paper.proofs.Harmed.{say, all-say}
+use Rattle.fact_largest.specs.Largest.{fresh, ends, rows, crowded, noneLeft, Taken, Ranged, Room}
 
-pub ends-right : AllSo ends
-unfolding all so call-open
-ends-right = all-so ends refl
+pub ends-right : AllSay ends
+unfolding eachSays say call-open
+ends-right = all-say ends refl
 
-pub none-right : AllSo none
-unfolding all so rows tables call-open
-none-right = all-so none refl
+pub none-left-right : AllSay noneLeft
+unfolding eachSays say rows crowded call-open
+none-left-right = all-say noneLeft refl
 
 pub taken : Taken
-unfolding run rows tables call-open
+unfolding run rows crowded call-open
 taken = record { created = refl; recordTaken = refl; added = refl; tableTaken = refl; tableBack = refl; recordBack = refl }
 
 pub ranged : Ranged

@@ -7,11 +7,11 @@ use Rattle.book_ledger.specs.Codes.{REG, TEARDOWN, RUNNABLE, PENDING-BLOCKED}
 use Rattle.book_ledger.specs.Tables.{Tables, lent, frameAt}
 use Rattle.book_ledger.specs.Words.{frameFrom, frameWord, domainFrom, domainWord, entryFrom, entryWord}
 use Rattle.book_ledger.specs.declared.{sizes.Sizes.Sizes, words.Frame.Frame, words.Domain.Domain, words.Entry.Entry}
-use Rattle.book_range.specs.Range.{frameOk, entryOk, recordOk, lentOk}
+use Rattle.book_range.specs.Range.{lentOk}
 use Rattle.base_calls.specs.declared.Call.{Call}
 use Rattle.fact_cases.specs.Cases.{base, run, gpa}
-use Rattle.fact_paper.specs.{Numbers.frame, Harmed.Harm, Harmed.all, Ranges.bare, Ranges.scalars, Ranges.word, Ranges.at}
-use Rattle.fact_paper.specs.Ranges.{all as allIn, none as noneIn}
+use Rattle.fact_paper.specs.{Numbers.frame, Harmed.OnTables, Harmed.eachSays}
+use Rattle.fact_paper.specs.Ranges.{allIn, noneIn, frameIn, entryIn, recordIn, word, at, scalars, bare}
 
 -- ---- fresh tables: "95 passes, 96 gives 1"; the last frame passes, bytes 4096 more give 1
 abbrev pub fresh : Tables
@@ -21,8 +21,8 @@ fresh = lent (replicate 16384 0) (replicate 320 0) (replicate 5 0) (replicate 16
 abbrev E : Hpa
 E = frame 16383
 
-abbrev pub ends : List Harm
-ends = all fresh (Call.Create E 95 ∷ []) 0 ++ all fresh (Call.Create (frame 16384) 95 ∷ Call.Create E 96 ∷ []) 1
+abbrev pub ends : List OnTables
+ends = eachSays fresh (Call.Create E 95 ∷ []) 0 ++ eachSays fresh (Call.Create (frame 16384) 95 ∷ Call.Create E 96 ∷ []) 1
 
 -- ---- record 63 and table 255 are taken and given back. Records 0 to 62, in teardown, and tables 0 to 254 are in use.
 unfoldable pub rows : ℕ → List ℕ
@@ -36,8 +36,8 @@ stock table record′ =
     full ∷ full ∷ full ∷ (2 ^ 63 - 1 + 2 ^ 63 * table) ∷ (2 ^ 63 - 1 + 2 ^ 63 * record′) ∷ []
 
 -- the words of frames 16378 and 16383, record 63, and the two bits
-unfoldable pub tables : ℕ → ℕ → List ℕ → ℕ → ℕ → Tables
-tables w v record63 table record′ =
+unfoldable pub crowded : ℕ → ℕ → List ℕ → ℕ → ℕ → Tables
+crowded w v record63 table record′ =
     lent (replicate 16378 0 ++ (w ∷ 0 ∷ 0 ∷ 0 ∷ 0 ∷ v ∷ [])) (rows 63 ++ record63) (stock table record′) (replicate 163840 0)
 
 -- E's TDR with record 63, an EPT of it with table 255, and its record: lifecycle and children as said
@@ -57,19 +57,19 @@ abbrev septadd : Call
 septadd = Call.SeptAdd E (gpa (255 * 2 ^ 39)) 3 (frame 16378)
 
 -- with both bits set none is left
-abbrev pub none : List Harm
-none = all (tables 0 tdr (kept 1 4) 1 1) (septadd ∷ Call.Create (frame 0) 33 ∷ []) 11
+abbrev pub noneLeft : List OnTables
+noneLeft = eachSays (crowded 0 tdr (kept 1 4) 1 1) (septadd ∷ Call.Create (frame 0) 33 ∷ []) 11
 
-abbrev frameIn : Tables → ℕ → Frame
-frameIn t n = frameAt (t .frames) (record { 0 = n })
+abbrev frameAfter : Tables → ℕ → Frame
+frameAfter t n = frameAt (t .frames) (record { 0 = n })
 
 pub record Taken : Type 0 where
-  pub created : frameIn (run (tables 0 0 (bare 0) 0 0) (create ∷ [])) 16383 ≡ frameFrom tdr
-  pub recordTaken : run (tables 0 0 (bare 0) 0 0) (create ∷ []) .stock ≡ stock 0 1
-  pub added : frameIn (run (tables 0 tdr (kept 1 4) 0 1) (septadd ∷ [])) 16378 ≡ frameFrom ept
-  pub tableTaken : run (tables 0 tdr (kept 1 4) 0 1) (septadd ∷ []) .stock ≡ stock 1 1
-  pub tableBack : run (tables ept tdr (kept 3 5) 1 1) (Call.Reclaim (frame 16378) ∷ []) .stock ≡ stock 0 1
-  pub recordBack : run (tables 0 tdr (kept 3 0) 0 1) (Call.Reclaim E ∷ []) .stock ≡ stock 0 0
+  pub created : frameAfter (run (crowded 0 0 (bare 0) 0 0) (create ∷ [])) 16383 ≡ frameFrom tdr
+  pub recordTaken : run (crowded 0 0 (bare 0) 0 0) (create ∷ []) .stock ≡ stock 0 1
+  pub added : frameAfter (run (crowded 0 tdr (kept 1 4) 0 1) (septadd ∷ [])) 16378 ≡ frameFrom ept
+  pub tableTaken : run (crowded 0 tdr (kept 1 4) 0 1) (septadd ∷ []) .stock ≡ stock 1 1
+  pub tableBack : run (crowded ept tdr (kept 3 5) 1 1) (Call.Reclaim (frame 16378) ∷ []) .stock ≡ stock 0 1
+  pub recordBack : run (crowded 0 tdr (kept 3 0) 0 1) (Call.Reclaim E ∷ []) .stock ≡ stock 0 0
 
 -- ---- answer 13: fresh tables are in range, and of the stored numbers the last ones; "fill stays exact": the lamp by the program's shares
 abbrev sizes : Sizes
@@ -77,12 +77,12 @@ sizes = record { frames = 16384; records = 64; tables = 256 }
 
 pub record Ranged : Type 0 where
   pub lent : lentOk base fresh ≡ true
-  pub framesIn : allIn (λ w. frameOk sizes (w ∷ []) 0) (tdr ∷ ept ∷ word 2 16383 0 0 0 ∷ word 4 16383 0 (2 ^ 32 - 1) 0 ∷ []) ≡ true
-  pub framesOut : noneIn (λ w. frameOk sizes (w ∷ []) 0) (word 1 0 64 0 0 ∷ []) ≡ true
-  pub entriesIn : allIn (λ w. entryOk 16384 (w ∷ []) 0 0) (at 1 16383 ∷ at 6 16383 ∷ []) ≡ true
-  pub entriesOut : noneIn (λ w. entryOk 16384 (w ∷ []) 0 0) (at 1 16384 ∷ []) ≡ true
-  pub recordsIn : allIn (λ ws. recordOk 16384 ws 0) (kept 1 16384 ∷ []) ≡ true
-  pub recordsOut : noneIn (λ ws. recordOk 16384 ws 0) (kept 1 16385 ∷ bare (scalars 96 0 0 0 0 1 0) ∷ []) ≡ true
+  pub framesIn : allIn (frameIn sizes) (tdr ∷ ept ∷ word 2 16383 0 0 0 ∷ word 4 16383 0 (2 ^ 32 - 1) 0 ∷ []) ≡ true
+  pub framesOut : noneIn (frameIn sizes) (word 1 0 64 0 0 ∷ []) ≡ true
+  pub entriesIn : allIn (entryIn sizes) (at 1 16383 ∷ at 6 16383 ∷ []) ≡ true
+  pub entriesOut : noneIn (entryIn sizes) (at 1 16384 ∷ []) ≡ true
+  pub recordsIn : allIn (recordIn sizes) (kept 1 16384 ∷ []) ≡ true
+  pub recordsOut : noneIn (recordIn sizes) (kept 1 16385 ∷ bare (scalars 96 0 0 0 0 1 0) ∷ []) ≡ true
   pub marks : marksOk (ratio 12288 16384) (ratio 8192 16384) 16384 ≡ true
   pub lit : (was : Bool) → lampAfter (ratio 12288 16384) (ratio 8192 16384) (ratio 12288 16384) was ≡ true
   pub stays : (was : Bool) → lampAfter (ratio 12288 16384) (ratio 8192 16384) (ratio 8192 16384) was ≡ was

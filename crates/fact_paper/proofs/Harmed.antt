@@ -6,19 +6,19 @@ use Rattle.call_carry.specs.Carry.{carried}
 use Rattle.call_host.specs.Calls.{planOf, settled, ruleOf}
 use Rattle.fact_cases.specs.Cases.{base, run}
 use Rattle.fact_cases.proofs.Open.{call-open}
-use Rattle.fact_paper.specs.Harmed.{Harm, AllSo, all, harmed}
+use Rattle.fact_paper.specs.Harmed.{OnTables, AllSay, eachSays, harmed}
 
-unfoldable pub so : List Harm → Bool
-so [] = true
-so (h ∷ hs) = need (eqb (numberOf (carried (h .tables) (planOf base (h .tables) (h .then)) .answer)) (h .says)) false (so hs)
+unfoldable pub say : List OnTables → Bool
+say [] = true
+say (h ∷ hs) = need (eqb (numberOf (carried (h .tables) (planOf base (h .tables) (h .then)) .answer)) (h .says)) false (say hs)
 
-pub all-so : (hs : List Harm) → so hs ≡ true → AllSo hs
-unfolding so AllSo ruleOf settled
-all-so [] e = tt
-all-so (h ∷ hs) e =
+pub all-say : (hs : List OnTables) → say hs ≡ true → AllSay hs
+unfolding say AllSay ruleOf settled
+all-say [] e = tt
+all-say (h ∷ hs) e =
     let t = eqb (numberOf (carried (h .tables) (planOf base (h .tables) (h .then)) .answer)) (h .says) in
-    (λ g. eqb-true _ _ (both-left t (so hs) e), all-so hs (both-right t (so hs) e))
+    (λ g. eqb-true _ _ (both-left t (say hs) e), all-say hs (both-right t (say hs) e))
 
-pub harmed-right : AllSo harmed
-unfolding harmed all so run call-open
-harmed-right = all-so harmed refl
+pub harmed-right : AllSay harmed
+unfolding harmed eachSays say run call-open
+harmed-right = all-say harmed refl

@@ -3,10 +3,10 @@ use Rattle.base_rules.proofs.Facts.{refl}
 use Rattle.book_stock.specs.Bits.{spareClear}
 use Rattle.book_range.specs.Range.{frameLimits, frameOk, entryOk, entriesOk, pageOk, pagesOk, domainOk, recordOk, tableOk, rootedOk}
 use Rattle.fact_cases.proofs.Open.{call-open}
-use Rattle.fact_paper.specs.Ranges.{all, none, Ranges}
+use Rattle.fact_paper.specs.Ranges.{allIn, noneIn, Ranges}
 
 pub ranges : Ranges
-unfolding all none frameLimits frameOk entryOk entriesOk pageOk pagesOk domainOk recordOk tableOk rootedOk spareClear call-open
+unfolding allIn noneIn frameLimits frameOk entryOk entriesOk pageOk pagesOk domainOk recordOk tableOk rootedOk spareClear call-open
 ranges = record {
   framesIn = refl;
   framesOut = refl;

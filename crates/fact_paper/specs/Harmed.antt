@@ -10,18 +10,20 @@ use Rattle.fact_cases.specs.Cases.{base, freshTables, run, gpa, D, blocked, tra
 use Rattle.fact_paper.specs.Numbers.{frame, pending}
 use Rattle.fact_paper.specs.Asked.{created, configured, initialized, runnable, dead, again, shut, records, trees}
 
-pub record Harm : Type 0 where
+-- tables, a call on them, and the number of its answer
+pub record OnTables : Type 0 where
   pub tables : Tables
   pub then : Call
   pub says : ℕ
 
-unfoldable pub AllSo : List Harm → Type 0
-AllSo [] = Unit
-AllSo (h ∷ hs) = ((g : Gauge) → numberOf (ruleOf base (h .tables) g (h .then) .answer) ≡ h .says) × AllSo hs
+unfoldable pub AllSay : List OnTables → Type 0
+AllSay [] = Unit
+AllSay (h ∷ hs) = ((g : Gauge) → numberOf (ruleOf base (h .tables) g (h .then) .answer) ≡ h .says) × AllSay hs
 
-unfoldable pub all : Tables → List Call → ℕ → List Harm
-all t [] n = []
-all t (c ∷ cs) n = record { tables = t; then = c; says = n } ∷ all t cs n
+-- each of these calls on these tables
+unfoldable pub eachSays : Tables → List Call → ℕ → List OnTables
+eachSays t [] n = []
+eachSays t (c ∷ cs) n = record { tables = t; then = c; says = n } ∷ eachSays t cs n
 
 -- ---- one word of a run's tables changed: the in-use bits, a frame's type and owner, the first record's op state, children and epoch
 abbrev after : List Call → Tables
@@ -42,8 +44,8 @@ abbrev domain : ℕ → ℕ → ℕ → ℕ → ℕ → Domain
 domain life op listed children epoch = record { key = 32; life = life; op = op; listed = listed; children = children; epoch = epoch; width = 0 }
 
 -- ---- "a TDR's record [..] is unused": for every call on D, and reclaim of the TDR
-abbrev pub unrecorded : List Harm
-unrecorded = all (stockIs 0 (after created)) (records D ++ trees D) 14
+abbrev pub unrecorded : List OnTables
+unrecorded = eachSays (stockIs 0 (after created)) (records D ++ trees D) 14
 
 -- ---- "a frame followed [..] isn't D's or isn't its entry's type": frame 5 is the EPT below the root, with table 0
 abbrev below : List Call
@@ -57,52 +59,52 @@ below =
     ∷ Call.ReadEntry D (gpa 0) 0
     ∷ []
 
-abbrev pub followed : List Harm
+abbrev pub followed : List OnTables
 followed =
-    all (frameIs 5 REG 0 (after blocked)) below 14
-    ++ (all (frameIs 5 EPT 1 (after blocked)) below 14
-    ++ (all (stockIs (2 ^ 12) (after blocked)) below 14
-    ++ all (frameIs 5 REG 0 (after pending)) (Call.PageAug D (gpa 8192) (frame 10) ∷ []) 14))
+    eachSays (frameIs 5 REG 0 (after blocked)) below 14
+    ++ (eachSays (frameIs 5 EPT 1 (after blocked)) below 14
+    ++ (eachSays (stockIs (2 ^ 12) (after blocked)) below 14
+    ++ eachSays (frameIs 5 REG 0 (after pending)) (Call.PageAug D (gpa 8192) (frame 10) ∷ []) 14))
 
 -- ---- ".. blocked, unblocked or removed": frame 8 is the page at gpa 0, frame 7 the EPT above it
-abbrev pub held : List Harm
+abbrev pub held : List OnTables
 held =
-    all (frameIs 8 REG 1 (after again)) (Call.Block D (gpa 0) 0 ∷ []) 14
-    ++ (all (frameIs 8 EPT 0 (after again)) (Call.Block D (gpa 0) 0 ∷ []) 14
-    ++ (all (frameIs 8 REG 1 (after tracked)) (Call.Unblock D (gpa 0) 0 ∷ Call.PageRemove D (gpa 0) ∷ []) 14
-    ++ all (frameIs 7 EPT 1 (after shut)) (Call.Unblock D (gpa 0) 1 ∷ Call.SeptRemove D (gpa 0) 1 ∷ []) 14))
+    eachSays (frameIs 8 REG 1 (after again)) (Call.Block D (gpa 0) 0 ∷ []) 14
+    ++ (eachSays (frameIs 8 EPT 0 (after again)) (Call.Block D (gpa 0) 0 ∷ []) 14
+    ++ (eachSays (frameIs 8 REG 1 (after tracked)) (Call.Unblock D (gpa 0) 0 ∷ Call.PageRemove D (gpa 0) ∷ []) 14
+    ++ eachSays (frameIs 7 EPT 1 (after shut)) (Call.Unblock D (gpa 0) 1 ∷ Call.SeptRemove D (gpa 0) 1 ∷ []) 14))
 
 -- ---- "or a child count would leave its range": 1024 children and one more, none and one less
 abbrev emptied : List Call
 emptied = tracked ++ (Call.PageRemove D (gpa 0) ∷ Call.Block D (gpa 0) 1 ∷ Call.Track D ∷ [])
 
-abbrev pub counts : List Harm
+abbrev pub counts : List OnTables
 counts =
-    all (domainIs (domain CONFIGURED UNINITIALIZED 1 1024 1) (after configured)) (Call.AddCx D (frame 9) ∷ []) 14
-    ++ (all (domainIs (domain CONFIGURED INITIALIZED 4 1024 1) (after blocked)) (
+    eachSays (domainIs (domain CONFIGURED UNINITIALIZED 1 1024 1) (after configured)) (Call.AddCx D (frame 9) ∷ []) 14
+    ++ (eachSays (domainIs (domain CONFIGURED INITIALIZED 4 1024 1) (after blocked)) (
     Call.SeptAdd D (gpa (2 ^ 21)) 1 (frame 9)
     ∷ Call.PageAdd D (gpa 4096) (frame 9)
     ∷ []) 14
-    ++ (all (domainIs (domain CONFIGURED RUNNABLE 4 1024 1) (after pending)) (Call.PageAug D (gpa 8192) (frame 10) ∷ []) 14
-    ++ (all (domainIs (domain CONFIGURED INITIALIZED 4 0 2) (after tracked)) (Call.PageRemove D (gpa 0) ∷ []) 14
-    ++ (all (domainIs (domain CONFIGURED INITIALIZED 4 0 3) (after emptied)) (Call.SeptRemove D (gpa 0) 1 ∷ []) 14
-    ++ all (domainIs (domain TEARDOWN UNINITIALIZED 1 0 1) (after dead)) (Call.Reclaim (frame 1) ∷ []) 14))))
+    ++ (eachSays (domainIs (domain CONFIGURED RUNNABLE 4 1024 1) (after pending)) (Call.PageAug D (gpa 8192) (frame 10) ∷ []) 14
+    ++ (eachSays (domainIs (domain CONFIGURED INITIALIZED 4 0 2) (after tracked)) (Call.PageRemove D (gpa 0) ∷ []) 14
+    ++ (eachSays (domainIs (domain CONFIGURED INITIALIZED 4 0 3) (after emptied)) (Call.SeptRemove D (gpa 0) 1 ∷ []) 14
+    ++ eachSays (domainIs (domain TEARDOWN UNINITIALIZED 1 0 1) (after dead)) (Call.Reclaim (frame 1) ∷ []) 14))))
 
 -- ---- "at reclaim an owner isn't a TDR, a TDR's record or such an EPT's table is unused"
 abbrev down : List Call
 down = blocked ++ (Call.FlushDone D ∷ Call.KeyFree D ∷ [])
 
-abbrev pub reclaimed : List Harm
+abbrev pub reclaimed : List OnTables
 reclaimed =
-    all (frameIs 1 TDCX 9 (after dead)) (Call.Reclaim (frame 1) ∷ []) 14
-    ++ (all (stockIs 0 (after dead)) (Call.Reclaim (frame 1) ∷ []) 14
-    ++ all (stockIs (2 ^ 12) (after down)) (Call.Reclaim (frame 5) ∷ []) 14)
+    eachSays (frameIs 1 TDCX 9 (after dead)) (Call.Reclaim (frame 1) ∷ []) 14
+    ++ (eachSays (stockIs 0 (after dead)) (Call.Reclaim (frame 1) ∷ []) 14
+    ++ eachSays (stockIs (2 ^ 12) (after down)) (Call.Reclaim (frame 5) ∷ []) 14)
 
 -- ---- 12: "epoch at its limit"
-abbrev pub late : List Harm
+abbrev pub late : List OnTables
 late =
-    all (domainIs (domain CONFIGURED INITIALIZED 4 4 (2 ^ 32 - 1)) (after initialized)) (Call.Track D ∷ []) 12
-    ++ all (domainIs (domain CONFIGURED RUNNABLE 4 4 (2 ^ 32 - 2)) (after runnable)) (Call.Track D ∷ []) 0
+    eachSays (domainIs (domain CONFIGURED INITIALIZED 4 4 (2 ^ 32 - 1)) (after initialized)) (Call.Track D ∷ []) 12
+    ++ eachSays (domainIs (domain CONFIGURED RUNNABLE 4 4 (2 ^ 32 - 2)) (after runnable)) (Call.Track D ∷ []) 0
 
-unfoldable pub harmed : List Harm
+unfoldable pub harmed : List OnTables
 harmed = unrecorded ++ (followed ++ (held ++ (counts ++ (reclaimed ++ late))))

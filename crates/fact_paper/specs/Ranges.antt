@@ -6,26 +6,26 @@ use Rattle.book_ledger.specs.declared.sizes.Sizes.{Sizes}
 use Rattle.book_range.specs.Range.{frameOk, entryOk, recordOk, tableOk, rootedOk}
 
 -- all of some words are in range; none is
-unfoldable pub all : {A : Type 0} → (A → Bool) → List A → Bool
-all p [] = true
-all p (w ∷ ws) = need (p w) false (all p ws)
+unfoldable pub allIn : {A : Type 0} → (A → Bool) → List A → Bool
+allIn p [] = true
+allIn p (w ∷ ws) = need (p w) false (allIn p ws)
 
-unfoldable pub none : {A : Type 0} → (A → Bool) → List A → Bool
-none p [] = true
-none p (w ∷ ws) = need (not (p w)) false (none p ws)
+unfoldable pub noneIn : {A : Type 0} → (A → Bool) → List A → Bool
+noneIn p [] = true
+noneIn p (w ∷ ws) = need (not (p w)) false (noneIn p ws)
 
 -- ---- a frame: its type, owner, number, epoch and size
 abbrev program : Sizes
 program = record { frames = 1024; records = 4; tables = 12 }
 
-abbrev pub frame : ℕ → Bool
-frame w = frameOk program (w ∷ []) 0
+abbrev pub frameIn : Sizes → ℕ → Bool
+frameIn z w = frameOk z (w ∷ []) 0
 
 abbrev pub word : ℕ → ℕ → ℕ → ℕ → ℕ → ℕ
 word kind owner number epoch size = kind + 2 ^ 3 * owner + 2 ^ 17 * number + 2 ^ 25 * epoch + 2 ^ 57 * size
 
-abbrev pub frames : List ℕ
-frames =
+abbrev pub rightFrames : List ℕ
+rightFrames =
     word 0 0 0 0 0
     ∷ word 1 0 3 0 0
     ∷ word 2 1023 0 0 0
@@ -34,8 +34,8 @@ frames =
     ∷ word 4 1023 0 (2 ^ 32 - 1) 0
     ∷ []
 
-abbrev pub noFrames : List ℕ
-noFrames =
+abbrev pub wrongFrames : List ℕ
+wrongFrames =
     word 0 1 0 0 0
     ∷ word 0 0 1 0 0
     ∷ word 0 0 0 1 0
@@ -56,15 +56,15 @@ noFrames =
     ∷ []
 
 -- ---- an entry: its state and frame
-abbrev pub entry : ℕ → Bool
-entry w = entryOk 1024 (w ∷ []) 0 0
+abbrev pub entryIn : Sizes → ℕ → Bool
+entryIn z w = entryOk (z .frames) (w ∷ []) 0 0
 
 abbrev pub at : ℕ → ℕ → ℕ
 at state frame = state + 2 ^ 3 * frame
 
 -- ---- a record: key, lifecycle, op state, listed pages, children, epoch and width; then its control pages
-abbrev pub kept : List ℕ → Bool
-kept ws = recordOk 1024 ws 0
+abbrev pub recordIn : Sizes → List ℕ → Bool
+recordIn z ws = recordOk (z .frames) ws 0
 
 abbrev pub scalars : ℕ → ℕ → ℕ → ℕ → ℕ → ℕ → ℕ → ℕ
 scalars key life op listed children epoch width = key + 2 ^ 7 * life + 2 ^ 10 * op + 2 ^ 12 * listed + 2 ^ 15 * children + 2 ^ 30 * epoch + 2 ^ 62 * width
@@ -72,11 +72,11 @@ scalars key life op listed children epoch width = key + 2 ^ 7 * life + 2 ^ 10 * 
 abbrev pub bare : ℕ → List ℕ
 bare w = w ∷ 0 ∷ 0 ∷ 0 ∷ 0 ∷ []
 
-abbrev pub records : List (List ℕ)
-records = bare (scalars 32 0 0 0 0 1 0) ∷ (scalars 95 3 2 4 1024 (2 ^ 32 - 1) 0 ∷ 1023 ∷ 0 ∷ 5 ∷ 7 ∷ []) ∷ []
+abbrev pub rightRecords : List (List ℕ)
+rightRecords = bare (scalars 32 0 0 0 0 1 0) ∷ (scalars 95 3 2 4 1024 (2 ^ 32 - 1) 0 ∷ 1023 ∷ 0 ∷ 5 ∷ 7 ∷ []) ∷ []
 
-abbrev pub noRecords : List (List ℕ)
-noRecords =
+abbrev pub wrongRecords : List (List ℕ)
+wrongRecords =
     bare (scalars 31 0 0 0 0 1 0)
     ∷ bare (scalars 96 0 0 0 0 1 0)
     ∷ bare (scalars 32 4 0 0 0 1 0)
@@ -94,12 +94,12 @@ abbrev root : List ℕ
 root = replicate 2048 0 ++ (7 ∷ replicate 511 0)
 
 pub record Ranges : Type 0 where
-  pub framesIn : all frame frames ≡ true
-  pub framesOut : none frame noFrames ≡ true
-  pub entriesIn : all entry (at 0 0 ∷ at 1 0 ∷ at 6 1023 ∷ []) ≡ true
-  pub entriesOut : none entry (at 7 0 ∷ at 0 1 ∷ at 1 1024 ∷ at 6 1024 ∷ []) ≡ true
-  pub recordsIn : all kept records ≡ true
-  pub recordsOut : none kept noRecords ≡ true
+  pub framesIn : allIn (frameIn program) rightFrames ≡ true
+  pub framesOut : noneIn (frameIn program) wrongFrames ≡ true
+  pub entriesIn : allIn (entryIn program) (at 0 0 ∷ at 1 0 ∷ at 6 1023 ∷ []) ≡ true
+  pub entriesOut : noneIn (entryIn program) (at 7 0 ∷ at 0 1 ∷ at 1 1024 ∷ at 6 1024 ∷ []) ≡ true
+  pub recordsIn : allIn (recordIn program) rightRecords ≡ true
+  pub recordsOut : noneIn (recordIn program) wrongRecords ≡ true
   -- "answer 13 doesn't look into unused ones": a table's last entry, a record's scalars and its root's first entry
   pub tableOut : tableOk 1024 (1 ∷ []) (replicate 511 0 ++ (7 ∷ [])) 0 ≡ false
   pub tableUnused : tableOk 1024 (0 ∷ []) (7 ∷ []) 0 ≡ true
