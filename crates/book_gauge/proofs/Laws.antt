@@ -94,7 +94,7 @@ module _ (n : ℕ) (F : framesOk n ≡ true) where
 pub after-ok : (g : Gauge) (u n : ℕ) → marksOk (g .raise) (g .clear) n ≡ true → marksOk (after g u n .raise) (after g u n .clear) n ≡ true
 after-ok g u n e = e
 
--- ---- the program's window and marks: 1024 frames, 0.75 and 0.5; "768 of 1024 used lights the lamp; 512 leaves it lit; 511 puts it out"
+-- ---- the program's window and marks: 1024 frames, 0.75 and 0.5
 program-frames : framesOk 1024 ≡ true
 program-frames = power-frames 10 (lit≤ tt) (lit≤ tt)
 
@@ -117,19 +117,3 @@ next-no-mark = mark-tried (ofBits binary64 0x3fe8_0000_0000_0001) 1024 refl ∙ 
 pub half-no-mark : isMark (ratio 1 2048) 1024 ≡ false
 unfolding choose given sameBits cutTo fits ofBits toBits ofInt div mul lt toUnsigned isNan
 half-no-mark = mark-tried (ratio 1 2048) 1024 refl ∙ rw program-frames
-
--- the lamp at u of 1024 frames
-at : (u : ℕ) → u ≤ 1024 → (was : Bool) → lampAfter (ratio 768 1024) (ratio 512 1024) (ratio u 1024) was ≡ choose (leb 768 u) true (choose (ltb u 512) false was)
-at u U was = lamp-counts 1024 program-frames _ _ _ (768, lit≤ tt, refl) (512, lit≤ tt, refl) (u, U, refl) was
-
-pub lamp-768 : (was : Bool) → lampAfter (ratio 768 1024) (ratio 512 1024) (ratio 768 1024) was ≡ true
-unfolding choose
-lamp-768 was = at 768 (lit≤ tt) was
-
-pub lamp-512 : (was : Bool) → lampAfter (ratio 768 1024) (ratio 512 1024) (ratio 512 1024) was ≡ was
-unfolding choose
-lamp-512 was = at 512 (lit≤ tt) was
-
-pub lamp-511 : (was : Bool) → lampAfter (ratio 768 1024) (ratio 512 1024) (ratio 511 1024) was ≡ false
-unfolding choose
-lamp-511 was = at 511 (lit≤ tt) was

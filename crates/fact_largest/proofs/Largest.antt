@@ -11,7 +11,7 @@ use Rattle.book_range.specs.Range.{frameLimits, frameOk, entryOk, pageOk, pages
 use Rattle.fact_keeps.proofs.{Ranged.of-lent, Fresh.zeros-lent}
 use Rattle.fact_cases.specs.Cases.{base, run}
 use Rattle.fact_cases.proofs.Open.{call-open}
-use Rattle.fact_paper.specs.{Harmed.AllSay, Harmed.eachSays, Ranges.allIn, Ranges.noneIn}
+use Rattle.fact_paper.specs.{Numbers.Lamp, Harmed.AllSay, Harmed.eachSays, Ranges.allIn, Ranges.noneIn}
 use Rattle.fact_paper.proofs.Harmed.{say, all-say}
 use Rattle.fact_largest.specs.Largest.{fresh, ends, rows, crowded, noneLeft, Taken, Ranged, Room}
 
@@ -28,15 +28,13 @@ unfolding run rows crowded call-open
 taken = record { created = refl; recordTaken = refl; added = refl; tableTaken = refl; tableBack = refl; recordBack = refl }
 
 pub ranged : Ranged
-unfolding sizesOk lengthsOk framesOk baseOk ones lampAfter div ofInt le lt allIn noneIn frameLimits frameOk entryOk pageOk pagesOk domainOk recordOk call-open
-ranged = record {
-  lent = of-lent base fresh (zeros-lent base fresh refl);
-  framesIn = refl;
-  framesOut = refl;
-  entriesIn = refl;
-  entriesOut = refl;
-  recordsIn = refl;
-  recordsOut = refl;
+unfolding sizesOk lengthsOk framesOk baseOk ones allIn noneIn frameLimits frameOk entryOk pageOk pagesOk domainOk recordOk call-open
+ranged = record { lent = of-lent base fresh (zeros-lent base fresh refl); frames = (refl, refl); entries = (refl, refl); records = (refl, refl) }
+
+-- "fill stays exact"
+pub largest-lamp : Lamp 16384 12288 8192
+unfolding framesOk between ones choose lampAfter div ofInt le lt
+largest-lamp = record {
   marks = of-marks 16384 refl _ _ (record { high = (12288, lit≤ tt, refl); low = (8192, lit≤ tt, refl); order = lit≤ tt; above = lit< tt });
   lit = λ was. refl;
   stays = λ was. refl;
@@ -46,7 +44,7 @@ ranged = record {
 pub room : Room
 room = record {
   frame = λ f a b c d e. frame-back f (omega arith);
-  tdr = λ f a b c d e. frame-back f (omega arith);
+  records = lit≤ tt;
   domain = λ d a b c e f g h. domain-back d (omega arith);
   entry = λ e a b. entry-back e (omega arith);
 }

@@ -2,7 +2,6 @@
 use Rattle.base_rules.specs.Basics.{ℕ, zero, suc, _+_, _-_, _*_, _^_, _≡_, _<_, _≤_, Bool, true, false, List, [], _∷_, _++_, replicate}
 use Rattle.base_units.specs.Limits.{framesMost, recordsMost, tablesMost, keyMost, controlPages, epochMost}
 use Rattle.base_units.specs.declared.address.Hpa.{Hpa}
-use Rattle.book_gauge.specs.{Fill.ratio, Marks.marksOk, Update.lampAfter}
 use Rattle.book_ledger.specs.Codes.{REG, TEARDOWN, RUNNABLE, PENDING-BLOCKED}
 use Rattle.book_ledger.specs.Tables.{Tables, lent, frameAt}
 use Rattle.book_ledger.specs.Words.{frameFrom, frameWord, domainFrom, domainWord, entryFrom, entryWord}
@@ -11,7 +10,7 @@ use Rattle.book_range.specs.Range.{lentOk}
 use Rattle.base_calls.specs.declared.Call.{Call}
 use Rattle.fact_cases.specs.Cases.{base, run, gpa}
 use Rattle.fact_paper.specs.{Numbers.frame, Harmed.OnTables, Harmed.eachSays}
-use Rattle.fact_paper.specs.Ranges.{allIn, noneIn, frameIn, entryIn, recordIn, word, at, scalars, bare}
+use Rattle.fact_paper.specs.Ranges.{Judged, frameIn, entryIn, recordIn, word, at, scalars, bare}
 
 -- ---- fresh tables: "95 passes, 96 gives 1"; the last frame passes, bytes 4096 more give 1
 abbrev pub fresh : Tables
@@ -71,28 +70,21 @@ pub record Taken : Type 0 where
   pub tableBack : run (crowded ept tdr (kept 3 5) 1 1) (Call.Reclaim (frame 16378) ∷ []) .stock ≡ stock 0 1
   pub recordBack : run (crowded 0 tdr (kept 3 0) 0 1) (Call.Reclaim E ∷ []) .stock ≡ stock 0 0
 
--- ---- answer 13: fresh tables are in range, and of the stored numbers the last ones; "fill stays exact": the lamp by the program's shares
+-- ---- answer 13: fresh tables are in range, and of the stored numbers the last ones
 abbrev sizes : Sizes
 sizes = record { frames = 16384; records = 64; tables = 256 }
 
 pub record Ranged : Type 0 where
   pub lent : lentOk base fresh ≡ true
-  pub framesIn : allIn (frameIn sizes) (tdr ∷ ept ∷ word 2 16383 0 0 0 ∷ word 4 16383 0 (2 ^ 32 - 1) 0 ∷ []) ≡ true
-  pub framesOut : noneIn (frameIn sizes) (word 1 0 64 0 0 ∷ []) ≡ true
-  pub entriesIn : allIn (entryIn sizes) (at 1 16383 ∷ at 6 16383 ∷ []) ≡ true
-  pub entriesOut : noneIn (entryIn sizes) (at 1 16384 ∷ []) ≡ true
-  pub recordsIn : allIn (recordIn sizes) (kept 1 16384 ∷ []) ≡ true
-  pub recordsOut : noneIn (recordIn sizes) (kept 1 16385 ∷ bare (scalars 96 0 0 0 0 1 0) ∷ []) ≡ true
-  pub marks : marksOk (ratio 12288 16384) (ratio 8192 16384) 16384 ≡ true
-  pub lit : (was : Bool) → lampAfter (ratio 12288 16384) (ratio 8192 16384) (ratio 12288 16384) was ≡ true
-  pub stays : (was : Bool) → lampAfter (ratio 12288 16384) (ratio 8192 16384) (ratio 8192 16384) was ≡ was
-  pub out : (was : Bool) → lampAfter (ratio 12288 16384) (ratio 8192 16384) (ratio 8191 16384) was ≡ false
+  pub frames : Judged (frameIn sizes) (tdr ∷ ept ∷ word 2 16383 0 0 0 ∷ word 4 16383 0 (2 ^ 32 - 1) 0 ∷ []) (word 1 0 64 0 0 ∷ [])
+  pub entries : Judged (entryIn sizes) (at 1 16383 ∷ at 6 16383 ∷ []) (at 1 16384 ∷ [])
+  pub records : Judged (recordIn sizes) (kept 1 16384 ∷ []) (kept 1 16385 ∷ bare (scalars 96 0 0 0 0 1 0) ∷ [])
 
--- ---- a lent word has room for every number up to the limits: what is stored comes back. (A control page has a whole word.)
+-- ---- a lent word has room for every number up to the limits: what is stored comes back. (A TDR's number is its record; a control page has a whole word.)
 pub record Room : Type 0 where
   pub frame : (f : Frame) → f .kind ≤ REG → f .owner .0 < framesMost → f .number < tablesMost → f .epoch ≤ epochMost → f .size ≡ 0
       → frameFrom (frameWord f) ≡ f
-  pub tdr : (f : Frame) → f .kind ≤ REG → f .owner .0 ≡ 0 → f .number < recordsMost → f .epoch ≡ 0 → f .size ≡ 0 → frameFrom (frameWord f) ≡ f
+  pub records : recordsMost ≤ tablesMost
   pub domain : (d : Domain) → d .key ≤ keyMost → d .life ≤ TEARDOWN → d .op ≤ RUNNABLE → d .listed ≤ controlPages → d .children ≤ framesMost
       → d .epoch ≤ epochMost → d .width ≡ 0 → domainFrom (domainWord d) ≡ d
   pub entry : (e : Entry) → e .state ≤ PENDING-BLOCKED → e .frame .0 < framesMost → entryFrom (entryWord e) ≡ e

@@ -1,10 +1,13 @@
 -- Document 01's numbers, met in cases, are the definitions'.
 use Rattle.base_rules.specs.Basics.{choose}
 use Rattle.base_rules.proofs.Facts.{refl}
-use lib.Count.{ones}
+use lib.{Count.ones, Ieee.div, Ieee.ofInt, Ieee.le, Ieee.lt}
 use Rattle.base_units.specs.Limits.{between, framesOk, baseOk}
+use Rattle.book_gauge.specs.Update.{lampAfter}
+use Rattle.book_gauge.proofs.Laws.{program-ok}
 use Rattle.fact_cases.specs.Cases.{run, AllRight}
-use Rattle.fact_paper.specs.{Numbers.numbered, Numbers.Limits, Numbers.Packed, Numbers.Left, Asked.each, Asked.every, Asked.rootTables, Asked.asked}
+use Rattle.fact_paper.specs.{Numbers.numbered, Numbers.Limits, Numbers.Lamp, Numbers.Packed, Numbers.Left}
+use Rattle.fact_paper.specs.Asked.{each, every, rootTables, asked}
 use Rattle.fact_cases.proofs.{Right.holds, Right.same, Right.all-right, Open.call-open}
 
 pub numbers-right : AllRight numbered
@@ -28,6 +31,10 @@ limits = record {
   tables = (refl, (refl, (refl, refl)));
   epochs = (refl, (refl, (refl, refl)));
 }
+
+pub program-lamp : Lamp 1024 768 512
+unfolding lampAfter choose div ofInt le lt
+program-lamp = record { marks = program-ok; lit = λ was. refl; stays = λ was. refl; out = λ was. refl }
 
 pub left : Left
 unfolding run call-open

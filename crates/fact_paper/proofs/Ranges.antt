@@ -7,17 +7,4 @@ use Rattle.fact_paper.specs.Ranges.{allIn, noneIn, Ranges}
 
 pub ranges : Ranges
 unfolding allIn noneIn frameLimits frameOk entryOk entriesOk pageOk pagesOk domainOk recordOk tableOk rootedOk spareClear call-open
-ranges = record {
-  framesIn = refl;
-  framesOut = refl;
-  entriesIn = refl;
-  entriesOut = refl;
-  recordsIn = refl;
-  recordsOut = refl;
-  tableOut = refl;
-  tableUnused = refl;
-  rootOut = refl;
-  rootUnused = refl;
-  spareIn = refl;
-  spareOut = refl;
-}
+ranges = record { frames = (refl, refl); entries = (refl, refl); records = (refl, refl); table = (refl, refl); root′ = (refl, refl); spare = (refl, refl) }

@@ -1,8 +1,9 @@
 -- Document 01's numbers a second time, each met in a case: its codes of types and states, the ends of its limits, the bits of a gpa. A number that
 -- is wrong in a definition and in its code alike would pass every equation between the two; here it fails.
-use Rattle.base_rules.specs.Basics.{ℕ, _+_, _*_, _^_, _≡_, true, false, List, [], _∷_, _++_}
+use Rattle.base_rules.specs.Basics.{ℕ, _+_, _-_, _*_, _^_, _≡_, Bool, true, false, List, [], _∷_, _++_}
 use Rattle.base_units.specs.Limits.{framesOk, recordsOk, tablesOk, epochOk, baseOk}
 use Rattle.base_units.specs.declared.address.{Hpa.Hpa}
+use Rattle.book_gauge.specs.{Fill.ratio, Marks.marksOk, Update.lampAfter}
 use Rattle.book_ledger.specs.Codes.{ASSIGNED, CONFIGURED, BLOCKED-LIFE, TEARDOWN, UNINITIALIZED, INITIALIZED, RUNNABLE}
 use Rattle.book_ledger.specs.{Tables.frameAt, Tables.domainAt, Tables.pageAt, Words.frameFrom, Words.domainFrom, Words.entryFrom}
 use Rattle.base_calls.specs.declared.{Call.Call, Values.Values}
@@ -77,6 +78,13 @@ pub record Limits : Type 0 where
   pub records : (recordsOk 1 ≡ true) × ((recordsOk 64 ≡ true) × ((recordsOk 0 ≡ false) × (recordsOk 65 ≡ false)))
   pub tables : (tablesOk 4 ≡ true) × ((tablesOk 256 ≡ true) × ((tablesOk 3 ≡ false) × (tablesOk 257 ≡ false)))
   pub epochs : (epochOk 1 ≡ true) × ((epochOk 4294967295 ≡ true) × ((epochOk 0 ≡ false) × (epochOk 4294967296 ≡ false)))
+
+-- ---- "768 of 1024 used lights the lamp; 512 leaves it lit; 511 puts it out": in a window, with the frames at the raise mark and at the clear mark
+pub record Lamp (frames raise clear : ℕ) : Type 0 where
+  pub marks : marksOk (ratio raise frames) (ratio clear frames) frames ≡ true
+  pub lit : (was : Bool) → lampAfter (ratio raise frames) (ratio clear frames) (ratio raise frames) was ≡ true
+  pub stays : (was : Bool) → lampAfter (ratio raise frames) (ratio clear frames) (ratio clear frames) was ≡ was
+  pub out : (was : Bool) → lampAfter (ratio raise frames) (ratio clear frames) (ratio (clear - 1) frames) was ≡ false
 
 -- ---- docs/TABLES.md: each field of a lent word at its bits, and the codes that no call reads out
 pub record Packed : Type 0 where

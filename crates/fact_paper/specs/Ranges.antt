@@ -14,6 +14,10 @@ unfoldable pub noneIn : {A : Type 0} → (A → Bool) → List A → Bool
 noneIn p [] = true
 noneIn p (w ∷ ws) = need (not (p w)) false (noneIn p ws)
 
+-- those that are right are in range, of those that are wrong none
+abbrev pub Judged : {A : Type 0} → (A → Bool) → List A → List A → Type 0
+Judged p right wrong = (allIn p right ≡ true) × (noneIn p wrong ≡ true)
+
 -- ---- a frame: its type, owner, number, epoch and size
 abbrev program : Sizes
 program = record { frames = 1024; records = 4; tables = 12 }
@@ -36,24 +40,10 @@ rightFrames =
 
 abbrev pub wrongFrames : List ℕ
 wrongFrames =
-    word 0 1 0 0 0
-    ∷ word 0 0 1 0 0
-    ∷ word 0 0 0 1 0
-    ∷ word 0 0 0 0 1
-    ∷ word 1 1 0 0 0
-    ∷ word 1 0 4 0 0
-    ∷ word 1 0 0 1 0
-    ∷ word 2 1024 0 0 0
-    ∷ word 2 0 1 0 0
-    ∷ word 2 0 0 1 0
-    ∷ word 3 1024 0 0 0
-    ∷ word 3 0 12 0 0
-    ∷ word 3 0 0 0 1
-    ∷ word 4 1024 0 0 0
-    ∷ word 4 0 1 0 0
-    ∷ word 4 0 0 0 1
-    ∷ word 5 0 0 0 0
-    ∷ []
+    (word 0 1 0 0 0 ∷ word 0 0 1 0 0 ∷ word 0 0 0 1 0 ∷ word 0 0 0 0 1 ∷ word 5 0 0 0 0 ∷ [])
+    ++ ((word 1 1 0 0 0 ∷ word 1 0 4 0 0 ∷ word 1 0 0 1 0 ∷ [])
+    ++ ((word 2 1024 0 0 0 ∷ word 2 0 1 0 0 ∷ word 2 0 0 1 0 ∷ [])
+    ++ ((word 3 1024 0 0 0 ∷ word 3 0 12 0 0 ∷ word 3 0 0 0 1 ∷ []) ++ (word 4 1024 0 0 0 ∷ word 4 0 1 0 0 ∷ word 4 0 0 0 1 ∷ []))))
 
 -- ---- an entry: its state and frame
 abbrev pub entryIn : Sizes → ℕ → Bool
@@ -94,17 +84,11 @@ abbrev root : List ℕ
 root = replicate 2048 0 ++ (7 ∷ replicate 511 0)
 
 pub record Ranges : Type 0 where
-  pub framesIn : allIn (frameIn program) rightFrames ≡ true
-  pub framesOut : noneIn (frameIn program) wrongFrames ≡ true
-  pub entriesIn : allIn (entryIn program) (at 0 0 ∷ at 1 0 ∷ at 6 1023 ∷ []) ≡ true
-  pub entriesOut : noneIn (entryIn program) (at 7 0 ∷ at 0 1 ∷ at 1 1024 ∷ at 6 1024 ∷ []) ≡ true
-  pub recordsIn : allIn (recordIn program) rightRecords ≡ true
-  pub recordsOut : noneIn (recordIn program) wrongRecords ≡ true
+  pub frames : Judged (frameIn program) rightFrames wrongFrames
+  pub entries : Judged (entryIn program) (at 0 0 ∷ at 1 0 ∷ at 6 1023 ∷ []) (at 7 0 ∷ at 0 1 ∷ at 1 1024 ∷ at 6 1024 ∷ [])
+  pub records : Judged (recordIn program) rightRecords wrongRecords
   -- "answer 13 doesn't look into unused ones": a table's last entry, a record's scalars and its root's first entry
-  pub tableOut : tableOk 1024 (1 ∷ []) (replicate 511 0 ++ (7 ∷ [])) 0 ≡ false
-  pub tableUnused : tableOk 1024 (0 ∷ []) (7 ∷ []) 0 ≡ true
-  pub rootOut : rootedOk 1024 (bare (scalars 32 0 0 0 0 1 0)) (2 ^ 4 ∷ []) root 0 ≡ false
-  pub rootUnused : rootedOk 1024 (bare 0) (0 ∷ []) root 0 ≡ true
+  pub table : (tableOk 1024 (1 ∷ []) (replicate 511 0 ++ (7 ∷ [])) 0 ≡ false) × (tableOk 1024 (0 ∷ []) (7 ∷ []) 0 ≡ true)
+  pub root′ : (rootedOk 1024 (bare (scalars 32 0 0 0 0 1 0)) (2 ^ 4 ∷ []) root 0 ≡ false) × (rootedOk 1024 (bare 0) (0 ∷ []) root 0 ≡ true)
   -- a bit behind the last block's is no block's
-  pub spareIn : spareClear (2 ^ 4 ∷ []) 5 ≡ true
-  pub spareOut : spareClear (2 ^ 5 ∷ []) 5 ≡ false
+  pub spare : (spareClear (2 ^ 4 ∷ []) 5 ≡ true) × (spareClear (2 ^ 5 ∷ []) 5 ≡ false)
