@@ -1,6 +1,7 @@
 /* What a call costs: its time on tables of four sizes, with no block in use and with all, and the most stack that any
  * call takes. cost CALLS says over how many calls each time is taken. It fails if a call takes more stack than the header
- * says. */
+ * says. cost CALLS FRAMES RECORDS TABLES none (or all) makes so many calls on tables of one size and prints nothing:
+ * bench/cost counts their instructions so. */
 #include <stdio.h>
 #include <stdlib.h>
 #include <string.h>
@@ -44,21 +45,33 @@ static void use_all(const reefnettle_model *model)
     }
 }
 
-/* Microseconds of one readpage, which writes no table. */
+static void must(reefnettle_answer answer)
+{
+    if (answer.number != REEFNETTLE_ANSWER_ACCEPTED) {
+        fprintf(stderr, "cost: answer %llu\n", (unsigned long long)answer.number);
+        exit(1);
+    }
+}
+
+/* The call is readpage, which writes no table. */
+static void make_calls(const reefnettle_model *model, long calls)
+{
+    for (long call = 0; call < calls; call++)
+        must(reefnettle_readpage(model, model->base));
+}
+
+/* Microseconds of one call. */
 static double time_call(const reefnettle_model *model, long calls)
 {
     const clock_t begin = clock();
-    for (long call = 0; call < calls; call++)
-        if (reefnettle_readpage(model, model->base).number != REEFNETTLE_ANSWER_ACCEPTED)
-            exit(1);
+    make_calls(model, calls);
     return 1e6 * (double)(clock() - begin) / CLOCKS_PER_SEC / (double)calls;
 }
 
 static void time_sizes(size_t window_frames, size_t records, size_t tables, long calls)
 {
     const reefnettle_model model = lend(window_frames, records, tables);
-    if (reefnettle_reset(&model).number != REEFNETTLE_ANSWER_ACCEPTED)
-        exit(1);
+    must(reefnettle_reset(&model));
     printf("frames %zu, records %zu, tables %zu: microseconds %.2f with no block in use", window_frames, records, tables,
            time_call(&model, calls));
     use_all(&model);
@@ -133,8 +146,7 @@ static size_t stack_bytes_of(reefnettle_request next)
     ask_on_own_stack();
     while (untouched < sizeof stack && stack[untouched] == PAINT)
         untouched++;
-    if (answer.number != REEFNETTLE_ANSWER_ACCEPTED)
-        exit(1);
+    must(answer);
     return sizeof stack - untouched;
 }
 
@@ -151,18 +163,47 @@ static size_t most_stack_bytes(void)
     return most;
 }
 
-int main(int words, char **word)
+static void time_all_sizes(long calls)
 {
-    const long calls = words == 2 ? atol(word[1]) : 0;
-    if (calls < 1) {
-        fprintf(stderr, "usage: cost CALLS, at least calls 1 for each time\n");
-        return 2;
-    }
     time_sizes(512, 1, 4, calls);
     time_sizes(1024, 4, 12, calls);
     time_sizes(4096, 16, 64, calls);
     time_sizes(REEFNETTLE_FRAMES_MOST, REEFNETTLE_RECORDS_MOST, REEFNETTLE_TABLES_MOST, calls);
-    const size_t stack_bytes = most_stack_bytes();
-    printf("stack of one call: bytes %zu at most\n", stack_bytes);
-    return stack_bytes <= STACK_BYTES_PROMISED ? 0 : 1;
+}
+
+/* Whether a call keeps to the stack that the header promises. */
+static bool tell_stack(void)
+{
+    const size_t bytes = most_stack_bytes();
+    printf("stack of one call: bytes %zu at most\n", bytes);
+    return bytes <= STACK_BYTES_PROMISED;
+}
+
+static size_t number(const char *digits)
+{
+    return (size_t)strtoul(digits, NULL, 10);
+}
+
+static void call_quietly(long calls, char **sizes, bool all)
+{
+    const reefnettle_model model = lend(number(sizes[0]), number(sizes[1]), number(sizes[2]));
+    must(reefnettle_reset(&model));
+    if (all)
+        use_all(&model);
+    make_calls(&model, calls);
+}
+
+int main(int words, char **word)
+{
+    const long calls = words > 1 ? atol(word[1]) : 0;
+    if (calls > 0 && words == 2) {
+        time_all_sizes(calls);
+        return tell_stack() ? 0 : 1;
+    }
+    if (calls > 0 && words == 6) {
+        call_quietly(calls, word + 2, strcmp(word[5], "all") == 0);
+        return 0;
+    }
+    fprintf(stderr, "usage: cost CALLS [FRAMES RECORDS TABLES none|all], at least calls 1\n");
+    return 2;
 }
