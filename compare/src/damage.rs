@@ -264,9 +264,14 @@ impl<'a> Damage<'a> {
         }
     }
 
+    /// A frame that the request comes by, that of its own entry more often than
+    /// the others: there answer 14 is rare.
     fn frame(&mut self) -> usize {
         let any = self.rng.index(self.machine.frames.len());
+        let own = self.steps.last().filter(|step| !step.entry.is_free());
+        let own = own.map(|step| step.entry.frame as usize);
         let aimed = self.rng.pick(&self.frames);
+        let aimed = own.filter(|_| self.rng.chance(500)).or(aimed);
         aimed.filter(|_| self.rng.chance(900)).unwrap_or(any)
     }
 

@@ -75,6 +75,15 @@ struct Comparison {
     tally: Tally,
 }
 
+/// Calls that need more calls before them than others. Where tables are ready
+/// for one, much is tried, so that few cases meet each place of answer 14.
+const SELDOM_READY: [u64; 4] = [
+    number::UNBLOCK,
+    number::PAGEREMOVE,
+    number::SEPTREMOVE,
+    number::RECLAIM,
+];
+
 /// What differs, the contradiction that isn't found, or what befell the door.
 type Compared<T> = Result<T, String>;
 
@@ -91,7 +100,7 @@ impl Comparison {
     /// what else can be lent and asked where each has come to.
     fn run_window(&mut self) -> Compared<()> {
         self.door.turn();
-        let sizes = spoil::sizes(&mut self.rng);
+        let sizes = spoil::sizes(&mut self.rng, self.tally.windows());
         self.tally.note_window(sizes);
         let junk = spoil::junk(&mut self.rng, sizes);
         let reset = Request {
@@ -104,6 +113,9 @@ impl Comparison {
             let request = Requests::new(&mut self.rng, &machine).likely();
             lent = self.compare(Spoil::Nothing, lent, &request)?;
             self.run_beside(&machine)?;
+            if SELDOM_READY.contains(&request.call) {
+                self.run_harmed(&machine, &request)?;
+            }
         }
         Ok(())
     }
@@ -120,6 +132,15 @@ impl Comparison {
         for _ in 0..2 {
             let request = Requests::new(&mut self.rng, machine).any();
             lent = self.compare(spoil, lent, &request)?;
+        }
+        Ok(())
+    }
+
+    /// One call on several copies, each with a number changed that it comes by.
+    fn run_harmed(&mut self, machine: &Machine, request: &Request) -> Compared<()> {
+        for _ in 0..4 {
+            let lent = Spoil::InRange.spoilt(&mut self.rng, machine, request);
+            self.compare(Spoil::InRange, lent, request)?;
         }
         Ok(())
     }

@@ -193,8 +193,10 @@ pub const SIZES: [(Sizes, u64); 10] = [
     ((16384, 64, 256), 1),
 ];
 
-pub fn sizes(rng: &mut Rng) -> Sizes {
-    SIZES[rng.weighted(&SIZES.map(|(_, weight)| weight))].0
+/// Each in turn for the first windows, then any.
+pub fn sizes(rng: &mut Rng, window: usize) -> Sizes {
+    let any = rng.weighted(&SIZES.map(|(_, weight)| weight));
+    SIZES.get(window).unwrap_or(&SIZES[any]).0
 }
 
 /// Any bits in all words, of sizes within the limits: what a reset may find.

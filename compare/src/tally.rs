@@ -23,6 +23,11 @@ pub struct Tally {
 }
 
 impl Tally {
+    /// How many windows there were.
+    pub fn windows(&self) -> usize {
+        self.windows.values().sum::<u64>() as usize
+    }
+
     pub fn note_window(&mut self, sizes: Sizes) {
         *self.windows.entry(sizes).or_default() += 1;
     }
