@@ -75,8 +75,8 @@ struct Comparison {
     tally: Tally,
 }
 
-/// Calls that need more calls before them than others. Where tables are ready
-/// for one, much is tried, so that few cases meet each place of answer 14.
+/// Calls that need many others before them. Where tables are ready for one, it
+/// is asked on more spoilt copies, so that its places of answer 14 are all met.
 const SELDOM_READY: [u64; 4] = [
     number::UNBLOCK,
     number::PAGEREMOVE,
