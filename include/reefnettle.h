@@ -242,7 +242,7 @@ enum {
     REEFNETTLE_ANSWER_OP_STATE = 5,       /* the domain's op state is wrong for the call */
     REEFNETTLE_ANSWER_WALK_STOPPED = 6,   /* the walk stopped above the level asked for, at this level and state */
     REEFNETTLE_ANSWER_WRONG_STATE = 7,    /* the entry has this level and state, wrong for the call */
-    REEFNETTLE_ANSWER_NOT_TRACKED = 8,    /* the domain's epoch hasn't moved on since the frame was blocked */
+    REEFNETTLE_ANSWER_NOT_TRACKED = 8,    /* a runnable domain's epoch hasn't moved on since the frame was blocked */
     REEFNETTLE_ANSWER_PAGES_REMAIN = 9,   /* a TDR has children, or a table an entry that isn't FREE */
     REEFNETTLE_ANSWER_KEY_TAKEN = 10,     /* a domain before teardown has the key */
     REEFNETTLE_ANSWER_NO_STOCK = 11,      /* no unused record (create) or table (septadd) is left */
@@ -297,7 +297,8 @@ static inline const char *reefnettle_answer_text(uint64_t number)
         "the domain's op state is wrong for the call",
         "the walk stopped above the level asked for",
         "the entry's state is wrong for the call",
-        "not tracked: the domain's epoch hasn't moved on since the frame was blocked",
+        "not tracked: the domain is runnable, and its epoch hasn't moved on since the frame was "
+        "blocked",
         "pages remain: a TDR has children, or a table has an entry that isn't FREE",
         "the key is taken: a domain before teardown has it",
         "no unused record (create) or table (septadd) is left",
@@ -506,7 +507,7 @@ static inline reefnettle_answer reefnettle_block(const reefnettle_model *model, 
     return reefnettle_ask_entry(model, REEFNETTLE_CALL_BLOCK, domain, gpa, level);
 }
 
-/* Moves the domain's epoch on. What was blocked before is then tracked. */
+/* Moves the domain's epoch on. What was blocked before is then tracked; before finalize it is so at once. */
 static inline reefnettle_answer reefnettle_track(const reefnettle_model *model, reefnettle_hpa domain)
 {
     return reefnettle_ask_domain(model, REEFNETTLE_CALL_TRACK, domain);

@@ -24,7 +24,7 @@ function names() {
     name_codes("op state", "uninitialized,initialized,runnable")
     name_codes("state", "FREE,NL_MAPPED,MAPPED,PENDING,NL_BLOCKED,BLOCKED,PENDING_BLOCKED")
     NDA = 0; TDR = 1; TDCX = 2; EPT = 3; REG = 4
-    BLOCKED = 2; TEARDOWN = 3; FREE = 0; NL_MAPPED = 1; BLOCKING = 3
+    BLOCKED = 2; TEARDOWN = 3; INITIALIZED = 1; FREE = 0; NL_MAPPED = 1; BLOCKING = 3
     UNIT["D"] = UNIT["F"] = "hpa"; UNIT["G"] = "gpa"; UNIT["L"] = "level"; UNIT["K"] = "key"
     IS_UNIT["hpa"] = IS_UNIT["gpa"] = IS_UNIT["level"] = IS_UNIT["key"] = 1
 }
@@ -300,11 +300,12 @@ function judge_state(   state) {
     return refuse_at(7, asked_level(), state, the_entry() " is in " coded("state", state) ", and " call " needs " any_of("state", STATES[call]))
 }
 
-# Answer 8.
-function judge_tracked(   frame) {
+# Answer 8. Before finalize nothing need be tracked.
+function judge_tracked(   tdr, frame) {
+    tdr = FRAME["D"]
     frame = LEADS[table, place]
-    if (!also("tracked") || BLOCKED_AT[frame] < EPOCH[FRAME["D"]]) return 0
-    return refuse(8, "not tracked: frame " frame " was blocked at epoch " BLOCKED_AT[frame] " and the domain is at epoch " EPOCH[FRAME["D"]])
+    if (!also("tracked") || OP[tdr] == INITIALIZED || BLOCKED_AT[frame] < EPOCH[tdr]) return 0
+    return refuse(8, "not tracked: " its_tracking(tdr, frame))
 }
 
 # Answer 9 of septremove.
@@ -435,17 +436,22 @@ function block(tdr, frame) {
 }
 
 function unblock(tdr, frame) {
-    why = turn(-BLOCKING) ": frame " frame " was " tracked_since(tdr, frame)
+    why = turn(-BLOCKING) ": " its_tracking(tdr, frame)
 }
 
-function remove(tdr, frame,   since, said) {
-    since = tracked_since(tdr, frame)
+function remove(tdr, frame,   tracking, said) {
+    tracking = its_tracking(tdr, frame)
     said = take_back(frame)
     STATE[table, place] = FREE
-    why = "frame " frame " becomes NDA and " the_entry() " FREE" said ": the frame was " since
+    why = "frame " frame " becomes NDA and " the_entry() " FREE" said ": " tracking
 }
 
-function tracked_since(tdr, frame) { return "blocked at epoch " BLOCKED_AT[frame] " and the domain is at epoch " EPOCH[tdr] }
+# Why a frame is tracked, or isn't.
+function its_tracking(tdr, frame,   said) {
+    said = "the domain is in " coded("op state", OP[tdr])
+    if (OP[tdr] == INITIALIZED) return said " and needs no tracking"
+    return said " and at epoch " EPOCH[tdr] ", and frame " frame " was blocked at epoch " BLOCKED_AT[frame]
+}
 
 function reclaim(frame,   tdr, said) {
     tdr = domain_of(frame)

@@ -104,7 +104,7 @@ pub enum Refusal {
         /// State of the entry.
         state: EntryState,
     },
-    /// Answer 8: not tracked since it was blocked.
+    /// Answer 8: not tracked since it was blocked, in a runnable domain.
     NotTracked,
     /// Answer 9: a TDR has children, or a table an entry that isn't FREE.
     PagesRemain,
@@ -163,7 +163,8 @@ impl Refusal {
             Refusal::WalkStopped { .. } => "the walk stopped above the level asked for",
             Refusal::WrongState { .. } => "the entry's state is wrong for the call",
             Refusal::NotTracked => {
-                "not tracked: the domain's epoch hasn't moved on since the frame was blocked"
+                "not tracked: the domain is runnable, and its epoch hasn't moved on since the \
+                 frame was blocked"
             }
             Refusal::PagesRemain => {
                 "pages remain: a TDR has children, or a table has an entry that isn't FREE"

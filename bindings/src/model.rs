@@ -320,7 +320,7 @@ impl Model {
     }
 
     /// Moves the epoch of a live domain on. What was blocked before is then
-    /// tracked.
+    /// tracked; before finalize it is so at once.
     pub fn track(&mut self, domain: Hpa) -> Result<(), Refusal> {
         self.accept_on_domain(number::TRACK, domain)
     }

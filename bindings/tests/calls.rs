@@ -63,6 +63,20 @@ fn a_page_comes_and_goes() -> Result<(), Refusal> {
 }
 
 #[test]
+fn before_finalize_a_page_goes_untracked() -> Result<(), Refusal> {
+    let (mut model, domain, gpa, page) = (built(), hpa(0), Gpa(0), Level(0));
+    model.block(domain, gpa, page)?;
+    let mut runnable = model.clone();
+    model.pageremove(domain, gpa)?;
+    assert_eq!(model.readpage(hpa(8))?.kind, FrameType::Nda);
+    // The same entry counts as any other once the domain can run.
+    runnable.finalize(domain)?;
+    let untracked = runnable.pageremove(domain, gpa);
+    assert_eq!(untracked, Err(Refusal::NotTracked));
+    Ok(())
+}
+
+#[test]
 fn a_table_goes_when_it_is_empty() -> Result<(), Refusal> {
     let (mut model, domain) = (built(), hpa(0));
     let (table, gpa) = (Level(1), Gpa(2097152));

@@ -277,13 +277,14 @@ fn walk() -> Vec<Step> {
     ])
 }
 
-/// A page blocked, unblocked, blocked again and removed.
+/// A page of a runnable domain blocked, unblocked, blocked again and removed.
 fn tracks() -> Vec<Step> {
     built(vec![
         ask(septadd(Gpa(0), Level(3), at(5))),
         ask(septadd(Gpa(0), Level(2), at(6))),
         ask(septadd(Gpa(0), Level(1), at(7))),
         ask(pageadd(Gpa(0), at(8))),
+        Step::Quiet(finalize(at(0))),
         ask(block(Gpa(0), Level(0))),
         ask(block(Gpa(0), Level(0))),
         ask(pageremove(Gpa(0))),
@@ -299,13 +300,15 @@ fn tracks() -> Vec<Step> {
     ])
 }
 
-/// A table whose first entry is FREE and whose second is not, then emptied and removed.
+/// A runnable domain's table whose first entry is FREE and whose second is not,
+/// then emptied and removed.
 fn remains() -> Vec<Step> {
     built(vec![
         ask(septadd(Gpa(0), Level(3), at(5))),
         ask(septadd(Gpa(0), Level(2), at(6))),
         ask(septadd(Gpa(0), Level(1), at(7))),
         ask(pageadd(Gpa(4096), at(8))),
+        Step::Quiet(finalize(at(0))),
         ask(block(Gpa(0), Level(1))),
         ask(readentry(Gpa(4096), Level(0))),
         ask(septremove(Gpa(0), Level(1))),
@@ -319,6 +322,28 @@ fn remains() -> Vec<Step> {
         ask(track(at(0))),
         ask(septremove(Gpa(0), Level(1))),
         ask(readentry(Gpa(0), Level(1))),
+    ])
+}
+
+/// What is blocked before finalize: untracked it may go then, and not after it.
+fn building() -> Vec<Step> {
+    built(vec![
+        Step::Quiet(septadd(Gpa(0), Level(3), at(5))),
+        Step::Quiet(septadd(Gpa(0), Level(2), at(6))),
+        Step::Quiet(septadd(Gpa(0), Level(1), at(7))),
+        Step::Quiet(pageadd(Gpa(0), at(8))),
+        Step::Quiet(pageadd(Gpa(4096), at(9))),
+        ask(pageremove(Gpa(0))),
+        ask(block(Gpa(0), Level(0))),
+        ask(unblock(Gpa(0), Level(0))),
+        ask(block(Gpa(0), Level(0))),
+        ask(pageremove(Gpa(0))),
+        ask(block(Gpa(4096), Level(0))),
+        ask(finalize(at(0))),
+        ask(pageremove(Gpa(4096))),
+        ask(unblock(Gpa(4096), Level(0))),
+        ask(track(at(0))),
+        ask(pageremove(Gpa(4096))),
     ])
 }
 
@@ -478,6 +503,7 @@ fn sequences() -> Vec<(&'static str, Vec<Step>)> {
         ("walk", walk()),
         ("tracks", tracks()),
         ("remains", remains()),
+        ("building", building()),
         ("augments", augments()),
         ("teardown", teardown()),
         ("keys", keys()),

@@ -27,7 +27,7 @@ pub enum Refusal {
         /// State of the entry.
         state: u64,
     },
-    /// 8: not tracked since it was blocked.
+    /// 8: not tracked since it was blocked, in a runnable domain.
     NotTracked,
     /// 9: pages remain below.
     PagesRemain,

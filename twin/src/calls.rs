@@ -602,9 +602,12 @@ impl Machine {
         Ok(entry)
     }
 
-    /// 8 unless the frame's epoch is below the domain's.
+    /// 8 unless the domain is initialized, and so can't be running yet, or the
+    /// frame's epoch is below the domain's.
     fn must_be_tracked(&self, domain: Domain, entry: Entry) -> Judged<()> {
-        if self.frames[entry.frame as usize].epoch >= self.records[domain.record].epoch {
+        let record = &self.records[domain.record];
+        let epoch = self.frames[entry.frame as usize].epoch;
+        if record.op_state != op_state::INITIALIZED && epoch >= record.epoch {
             return Err(Refusal::NotTracked);
         }
         Ok(())

@@ -690,7 +690,9 @@ impl Generator {
     }
 
     fn is_tracked(&self, tdr: usize, spot: Spot) -> bool {
-        self.machine.frames[spot.entry.frame as usize].epoch < self.record(tdr).epoch
+        let record = self.record(tdr);
+        record.op_state == op_state::INITIALIZED
+            || self.machine.frames[spot.entry.frame as usize].epoch < record.epoch
     }
 
     fn is_empty_table(&self, entry: Entry) -> bool {

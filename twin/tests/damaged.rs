@@ -3,7 +3,7 @@
 mod common;
 
 use common::{accept, blocked, ended, hpa, refuse, tree, with, D, MIB};
-use reefnettle_twin::{entry_state, frame_type, Call, Entry, Frame, Machine};
+use reefnettle_twin::{entry_state, frame_type, op_state, Call, Entry, Frame, Machine};
 
 /// A change made by hand, by name.
 type Damage = (&'static str, fn(&mut Machine, usize));
@@ -181,8 +181,17 @@ fn tracking_is_judged_by_whatever_frame_is_named() {
     // Another's page, blocked at an epoch that isn't D's business.
     let domain = D;
     let call = Call::PageRemove { domain, gpa: 0 };
-    for (epoch, number) in [(0, 14), (4, 14), (5, 8), (6, 8)] {
+    let (initialized, runnable) = (op_state::INITIALIZED, op_state::RUNNABLE);
+    let cases = [
+        (initialized, 5, 14),
+        (runnable, 0, 14),
+        (runnable, 4, 14),
+        (runnable, 5, 8),
+        (runnable, 6, 8),
+    ];
+    for (op_state, epoch, number) in cases {
         let mut machine = with(&blocked(false), |m| {
+            m.records[0].op_state = op_state;
             m.records[0].epoch = 5;
             m.frames[8].owner = 20;
             m.frames[8].epoch = epoch;
@@ -196,7 +205,10 @@ fn tracking_is_judged_by_whatever_frame_is_named() {
         refuse(&mut machine, unblock, number);
     }
     // A free frame has epoch 0 and so always counts as tracked.
-    let mut machine = with(&blocked(false), |m| m.frames[8] = Frame::default());
+    let mut machine = with(&blocked(false), |m| {
+        m.records[0].op_state = runnable;
+        m.frames[8] = Frame::default();
+    });
     refuse(&mut machine, call, 14);
 }
 

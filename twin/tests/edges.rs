@@ -2,7 +2,7 @@
 
 mod common;
 
-use common::{accept, blocked, build, ended, hpa, live, refuse, tree, with, D, GIB, MIB};
+use common::{accept, block, blocked, build, ended, hpa, live, refuse, tree, with, D, GIB, MIB};
 use reefnettle_twin::{
     entry_state, frame_type, lifecycle, replay_machine, Call, Entry, Frame, Machine, Readout,
     EPOCH_LIMIT,
@@ -64,18 +64,55 @@ fn level_0_is_no_table() {
     }
 }
 
+/// The calls that want an entry to be tracked: at gpa 0, level 0 and at 2 MiB,
+/// level 1, which `blocked` has blocked.
+fn tracked_calls() -> [Call; 4] {
+    let domain = D;
+    let unblock = |gpa, level| Call::Unblock { domain, gpa, level };
+    let (gpa, level) = (2 * MIB, 1);
+    [
+        Call::PageRemove { domain, gpa: 0 },
+        unblock(0, 0),
+        Call::SeptRemove { domain, gpa, level },
+        unblock(gpa, level),
+    ]
+}
+
 #[test]
-fn tracked_or_not() {
-    let mut machine = blocked(false);
-    let remove = Call::PageRemove { domain: D, gpa: 0 };
-    refuse(&mut machine, remove, 8);
-    accept(&mut machine, Call::Track { domain: D });
-    assert_eq!(machine.records[0].epoch, 2);
+fn a_runnable_domain_tracks() {
+    let (domain, entries) = (D, [(0, 0), (2 * MIB, 1)]);
+    let mut before = blocked(false);
+    accept(&mut before, Call::Finalize { domain });
+    let mut after = tree();
+    accept(&mut after, Call::Finalize { domain });
+    block(&mut after, &entries);
+    // It is one whether finalize came before the block or after it.
+    assert!(before == after);
+    for call in tracked_calls() {
+        refuse(&mut after.clone(), call, 8);
+    }
+    accept(&mut after, Call::Track { domain });
+    assert_eq!(after.records[0].epoch, 2);
+    assert_eq!(after.frames[8].epoch, 1);
+    for call in tracked_calls() {
+        accept(&mut after.clone(), call);
+    }
+    accept(&mut after, Call::PageRemove { domain, gpa: 0 });
+    assert_eq!(after.frames[8], Frame::default());
+    assert_eq!(after.tables[2].entries[0], Entry::FREE);
+    assert_eq!(after.records[0].child_count, 9);
+}
+
+#[test]
+fn an_initialized_domain_needs_no_tracking() {
+    let machine = blocked(false);
+    assert_eq!(machine.records[0].epoch, 1);
     assert_eq!(machine.frames[8].epoch, 1);
-    accept(&mut machine, remove);
-    assert_eq!(machine.frames[8], Frame::default());
-    assert_eq!(machine.tables[2].entries[0], Entry::FREE);
-    assert_eq!(machine.records[0].child_count, 9);
+    for call in tracked_calls() {
+        accept(&mut machine.clone(), call);
+        // But what isn't blocked is refused as ever.
+        refuse(&mut tree(), call, 7);
+    }
 }
 
 #[test]
@@ -278,6 +315,7 @@ fn epoch_at_its_limit() {
 fn blocking_and_unblocking() {
     let mut machine = blocked(true);
     let (domain, gpa) = (D, 0);
+    accept(&mut machine, Call::Finalize { domain });
     for (frame, epoch) in [(7, 1), (8, 1), (9, 0), (10, 1)] {
         assert_eq!(machine.frames[frame].epoch, epoch);
     }

@@ -67,6 +67,11 @@ fn mend_op(m: &mut Machine) {
     m.records[0].op_state = op_state::INITIALIZED;
 }
 
+/// For the calls that want what is blocked to be tracked, in a runnable domain.
+fn mend_op_to_runnable(m: &mut Machine) {
+    m.records[0].op_state = op_state::RUNNABLE;
+}
+
 const DOMAIN_RUNGS: [Rung; 5] = [
     (nothing, 13),
     (mend_gauge, 2),
@@ -378,7 +383,7 @@ fn unblock() {
         },
         &rungs(&[
             (mend_pages as fn(&mut Machine), 5),
-            (mend_op, 14),
+            (mend_op_to_runnable, 14),
             (|m| m.records[0].root[0].frame = 5, 7),
             (
                 |m| m.tables[1].entries[1].state = entry_state::NL_BLOCKED,
@@ -405,7 +410,7 @@ fn pageremove() {
         Call::PageRemove { domain: D, gpa: 0 },
         &rungs(&[
             (mend_pages as fn(&mut Machine), 5),
-            (mend_op, 6),
+            (mend_op_to_runnable, 6),
             (
                 |m| m.tables[1].entries[0].state = entry_state::NL_MAPPED,
                 14,
@@ -441,7 +446,7 @@ fn septremove() {
         },
         &rungs(&[
             (mend_pages as fn(&mut Machine), 5),
-            (mend_op, 7),
+            (mend_op_to_runnable, 7),
             (
                 |m| m.tables[1].entries[0].state = entry_state::NL_BLOCKED,
                 8,

@@ -1,7 +1,7 @@
 -- The entry that a call is about: the walk's 6 or 14, then the entry's 7.
-use Rattle.base_rules.specs.Basics.{ℕ, Bool, List, eqb, ltb, choose, need, given, allFrom}
+use Rattle.base_rules.specs.Basics.{ℕ, Bool, true, List, eqb, ltb, choose, need, given, allFrom}
 use Rattle.base_units.specs.{Limits.between, Limits.tableEntries, declared.address.Gpa.Gpa, declared.address.Pfn.Pfn}
-use Rattle.book_ledger.specs.Codes.{FREE, NL-MAPPED, MAPPED, PENDING, NL-BLOCKED, BLOCKED, PENDING-BLOCKED}
+use Rattle.book_ledger.specs.Codes.{INITIALIZED, FREE, NL-MAPPED, MAPPED, PENDING, NL-BLOCKED, BLOCKED, PENDING-BLOCKED}
 use Rattle.book_ledger.specs.{Tables.Tables, Tables.frameAt, Tables.entryAt, declared.words.Entry.Entry}
 use Rattle.book_walk.specs.{Walk.walkFrom, Walk.onWalk, declared.Walk.Walk}
 use Rattle.base_calls.specs.{declared.Answer.Answer, declared.Answer.the-variants.No, declared.Answer.the-variants.Stop, Operands.NONE}
@@ -30,9 +30,12 @@ blockedState s = choose (eqb s NL-MAPPED) NL-BLOCKED (choose (eqb s MAPPED) BLOC
 unfoldable pub unblockedState : ℕ → ℕ
 unblockedState s = choose (eqb s NL-BLOCKED) NL-MAPPED (choose (eqb s BLOCKED) MAPPED PENDING)
 
--- "Tracked" means that the frame's epoch is below the domain's.
+-- "Tracked" means that the frame's epoch is below the domain's. Document 02, request 2: "true whenever the op state is initialized, otherwise as before".
 unfoldable pub isTracked : List ℕ → Pfn → Subject → Bool
-isTracked fs n x = given (frameAt fs n) λ f. ltb (f .epoch) (x .dom .epoch)
+isTracked fs n x =
+    choose (eqb (x .dom .op) INITIALIZED) true (
+    given (frameAt fs n) λ f.
+    ltb (f .epoch) (x .dom .epoch))
 
 -- "its 512 entries FREE"
 unfoldable pub freeAt : List ℕ → ℕ → ℕ → Bool

@@ -39,12 +39,15 @@ use call_plan::lookup::NO_FRAME;
 use call_plan::lookup::Parties;
 use call_plan::lookup::Subject;
 
-// Whether a frame is tracked for the domain x.
+// Whether a frame is tracked for the domain x. One that is still being built can't be running, and no processor remembers its old entries.
 fn is_tracked(frames: &[u64], n: Pfn, x: Subject) -> bool
     ensures { λ r. ⌜ r ≡ isTracked (now (frames .entry)) n x ⌝ }
 {
-    let f = tables::frame_at(frames, n);
     let d = x.dom;
+    if d.op == INITIALIZED {
+        return true;
+    }
+    let f = tables::frame_at(frames, n);
     f.epoch < d.epoch
 }
 

@@ -62,9 +62,9 @@ line-6 = Call.KeyConfig D
 abbrev pub line-7 : Call
 line-7 = Call.AddCx D (hpa 1073745920)
 
--- a domain that is live, with a page at gpa 0, blocked at epoch 1
-abbrev pub blocked : List Call
-blocked =
+-- a domain that is initialized, with a page at gpa 0
+abbrev pub mapped : List Call
+mapped =
     line-1
     ∷ line-6
     ∷ line-7
@@ -76,11 +76,18 @@ blocked =
     ∷ Call.SeptAdd D (gpa 0) 2 (hpa 1073766400)
     ∷ Call.SeptAdd D (gpa 0) 1 (hpa 1073770496)
     ∷ Call.PageAdd D (gpa 0) (hpa 1073774592)
-    ∷ Call.Block D (gpa 0) 0
     ∷ []
+
+-- the page blocked at epoch 1; and then the domain at epoch 2
+abbrev pub blocked : List Call
+blocked = mapped ++ (Call.Block D (gpa 0) 0 ∷ [])
 
 abbrev pub tracked : List Call
 tracked = blocked ++ (Call.Track D ∷ [])
+
+-- a runnable domain, with the page blocked at epoch 1
+abbrev pub blockedRunnable : List Call
+blockedRunnable = mapped ++ (Call.Finalize D ∷ Call.Block D (gpa 0) 0 ∷ [])
 
 -- ---- "Lines 1, 2, 3, 4, 6, 7, 8 and 9 above."
 abbrev pub line1 : Case
@@ -117,13 +124,32 @@ gpaUnaligned = case (line-1 ∷ line-6 ∷ line-7 ∷ []) (Call.Block D (gpa 209
 abbrev pub gpaTooBig : Case
 gpaTooBig = case (line-1 ∷ line-6 ∷ line-7 ∷ []) (Call.Block D (gpa 140737488355328) 0) (no 1)
 
--- ---- "Blocked at epoch 1 with the domain at 1: pageremove gives 8; with the domain at 2: accepted."
+-- ---- "Blocked at epoch 1 with the domain at 1: pageremove gives 8; with the domain at 2: accepted." Document 02, request 2: "The marked case
+-- answering 8 is now a runnable domain's; an accepted initialized twin joins the table."
 abbrev pub notTracked : Case
-notTracked = case blocked (Call.PageRemove D (gpa 0)) (no 8)
+notTracked = case blockedRunnable (Call.PageRemove D (gpa 0)) (no 8)
 
 abbrev pub trackedNow : Case
-trackedNow = case tracked (Call.PageRemove D (gpa 0)) (no 0)
+trackedNow = case (blockedRunnable ++ (Call.Track D ∷ [])) (Call.PageRemove D (gpa 0)) (no 0)
+
+abbrev pub initializedTwin : Case
+initializedTwin = case blocked (Call.PageRemove D (gpa 0)) (no 0)
 
 -- the table
 unfoldable pub marked : List Case
-marked = line1 ∷ line2 ∷ line3 ∷ line4 ∷ line6 ∷ line7 ∷ line8 ∷ line9 ∷ gpaFits1 ∷ gpaUnaligned ∷ gpaTooBig ∷ notTracked ∷ trackedNow ∷ []
+marked =
+    line1
+    ∷ line2
+    ∷ line3
+    ∷ line4
+    ∷ line6
+    ∷ line7
+    ∷ line8
+    ∷ line9
+    ∷ gpaFits1
+    ∷ gpaUnaligned
+    ∷ gpaTooBig
+    ∷ notTracked
+    ∷ trackedNow
+    ∷ initializedTwin
+    ∷ []

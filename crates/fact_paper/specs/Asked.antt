@@ -3,7 +3,7 @@
 use Rattle.base_rules.specs.Basics.{ℕ, zero, suc, _+_, _*_, _^_, List, [], _∷_, _++_}
 use Rattle.base_units.specs.declared.address.{Hpa.Hpa, Gpa.Gpa}
 use Rattle.base_calls.specs.declared.Call.{Call}
-use Rattle.fact_cases.specs.Cases.{Case, hpa, gpa, no, case, D, line-1, line-6, line-7, blocked, tracked}
+use Rattle.fact_cases.specs.Cases.{Case, hpa, gpa, no, case, D, line-1, line-6, line-7, blocked, tracked, blockedRunnable}
 use Rattle.fact_paper.specs.Numbers.{frame, stopped, pending}
 
 -- each of some calls in one state, with its answer. (A row that is too short can't hold: no call answers 99.)
@@ -155,7 +155,7 @@ frames =
     ∷ case dead (Call.Reclaim (frame 2)) (no 2)
     ∷ []
 
--- ---- 6: no table below the root; 7: a new page wants a FREE entry, block one that isn't blocked, unblock and the removals one that is; 8: not tracked;
+-- ---- 6: no table below the root; 7: a new page wants a FREE entry, block one that isn't blocked, unblock and the removals one that is;
 -- 9: septremove wants an empty table
 abbrev pub again : List Call
 again = tracked ++ (Call.Unblock D (gpa 0) 0 ∷ [])
@@ -184,11 +184,31 @@ entries =
     ∷ case again (Call.Unblock D (gpa 0) 0) (stopped 7 0 2)
     ∷ case again (Call.PageRemove D (gpa 0)) (stopped 7 0 2)
     ∷ case blocked (Call.SeptRemove D (gpa 0) 1) (stopped 7 1 1)
-    ∷ case blocked (Call.Unblock D (gpa 0) 0) (no 8)
-    ∷ case covered (Call.SeptRemove D (gpa 0) 1) (no 8)
     ∷ case shut (Call.SeptRemove D (gpa 0) 1) (no 9)
     ∷ case (tracked ++ (Call.PageRemove D (gpa 0) ∷ Call.Block D (gpa 0) 1 ∷ Call.Track D ∷ [])) (Call.SeptRemove D (gpa 0) 1) (no 0)
     ∷ []
 
+-- ---- 8: not tracked. Document 02, request 2: nothing is asked of an initialized domain. Of a runnable one it is, and a frame that was blocked before
+-- finalize counts as any other
+abbrev coveredRunnable : List Call
+coveredRunnable = blockedRunnable ++ (Call.Block D (gpa 0) 1 ∷ [])
+
+abbrev finalized : List Call
+finalized = blocked ++ (Call.Finalize D ∷ [])
+
+abbrev pub epochs : List Case
+epochs =
+    case blocked (Call.Unblock D (gpa 0) 0) (no 0)
+    ∷ case covered (Call.Unblock D (gpa 0) 1) (no 0)
+    ∷ case covered (Call.SeptRemove D (gpa 0) 1) (no 9)
+    ∷ case (blocked ++ (Call.PageRemove D (gpa 0) ∷ Call.Block D (gpa 0) 1 ∷ [])) (Call.SeptRemove D (gpa 0) 1) (no 0)
+    ∷ case blockedRunnable (Call.Unblock D (gpa 0) 0) (no 8)
+    ∷ case coveredRunnable (Call.Unblock D (gpa 0) 1) (no 8)
+    ∷ case coveredRunnable (Call.SeptRemove D (gpa 0) 1) (no 8)
+    ∷ case finalized (Call.PageRemove D (gpa 0)) (no 8)
+    ∷ case (finalized ++ (Call.Track D ∷ [])) (Call.PageRemove D (gpa 0)) (no 0)
+    ∷ case (tracked ++ (Call.Finalize D ∷ [])) (Call.PageRemove D (gpa 0)) (no 0)
+    ∷ []
+
 unfoldable pub asked : List Case
-asked = ofRecords ++ (ofTrees ++ (ops ++ (operands ++ (frames ++ entries))))
+asked = ofRecords ++ (ofTrees ++ (ops ++ (operands ++ (frames ++ (entries ++ epochs)))))

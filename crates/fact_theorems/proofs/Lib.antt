@@ -4,3 +4,4 @@ pub mod Effects
 pub mod Outcomes
 pub mod Doors
 pub mod Fills
+pub mod Tracking

@@ -118,19 +118,17 @@ pub fn ended() -> Machine {
 /// 1, but 7 only if asked for, as it cuts off what lies below.
 pub fn blocked(with_seven: bool) -> Machine {
     let mut machine = tree();
-    let mut entries = vec![(0, 0), (2 * MIB, 1)];
+    block(&mut machine, &[(0, 0), (2 * MIB, 1)]);
     if with_seven {
-        entries.push((0, 1));
-    }
-    for (gpa, level) in entries {
-        accept(
-            &mut machine,
-            Call::Block {
-                domain: D,
-                gpa,
-                level,
-            },
-        );
+        block(&mut machine, &[(0, 1)]);
     }
     machine
+}
+
+/// Blocks D's entries at these gpa and levels.
+pub fn block(machine: &mut Machine, entries: &[(u64, u64)]) {
+    let domain = D;
+    for &(gpa, level) in entries {
+        accept(machine, Call::Block { domain, gpa, level });
+    }
 }

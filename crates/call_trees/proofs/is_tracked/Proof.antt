@@ -5,4 +5,4 @@ use Rattle.call_trees.proofs.is_tracked.{Statement.statement, Tie.close
 pub is-tracked-spec : {M : Type 1} → statement M
 unfolding isTracked
 is-tracked-spec = close (spec
-    (λ c κs. search needs) (λ c. search ons depth 16))
+    (λ c. search ons depth 16) (λ c κs. search needs) (λ c. search ons depth 16))
