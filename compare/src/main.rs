@@ -8,7 +8,8 @@
 //! DOOR and its words are the command that starts the library's door, which
 //! `compare/run` builds. The same seed gives the same cases. It fails where the
 //! sides differ, if the door ends or gives no answer within the patience, and if
-//! a window, an answer, an accepted call or a place of answer 14 was never met.
+//! a window, an answer, an accepted call, a place of answer 14 or a call on what
+//! isn't tracked, in each op state, was never met.
 
 mod damage;
 mod floats;
@@ -18,6 +19,7 @@ mod requests;
 mod sides;
 mod spoil;
 mod tally;
+mod tracking;
 mod tree;
 
 use std::env;
@@ -31,6 +33,7 @@ use places::Place;
 use requests::Requests;
 use spoil::Spoil;
 use tally::Tally;
+use tracking::Untracked;
 
 const USAGE: &str =
     "usage: reefnettle-compare [--cases N] [--seed S] [--patience SECONDS] DOOR [WORD ...]";
@@ -164,6 +167,10 @@ impl Comparison {
             return Err(wrong("no contradiction found".to_string()));
         }
         self.tally.note(spoil, request.call, answer, place);
+        let untracked = Untracked::find(request, answer, || layout::unpack(&lent));
+        if let Some(untracked) = untracked {
+            self.tally.note_untracked(untracked);
+        }
         Ok(library.lent)
     }
 }

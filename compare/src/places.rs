@@ -159,7 +159,7 @@ impl Move {
 }
 
 /// The number of a frame whose hpa has passed the operand check.
-fn number_of(machine: &Machine, hpa: u64) -> usize {
+pub fn number_of(machine: &Machine, hpa: u64) -> usize {
     ((hpa - machine.base) / FRAME_BYTES) as usize
 }
 

@@ -7,6 +7,7 @@ use reefnettle_compare::number;
 
 use crate::places::Place;
 use crate::spoil::{Sizes, Spoil, SIZES};
+use crate::tracking::Untracked;
 
 const ANSWERS: u64 = 16;
 const CALLS: u64 = number::READENTRY + 1;
@@ -20,6 +21,7 @@ pub struct Tally {
     accepted: BTreeMap<u64, u64>,
     answers: BTreeMap<u64, u64>,
     places: BTreeMap<Place, u64>,
+    untracked: BTreeMap<Untracked, u64>,
 }
 
 impl Tally {
@@ -44,6 +46,10 @@ impl Tally {
         }
     }
 
+    pub fn note_untracked(&mut self, untracked: Untracked) {
+        *self.untracked.entry(untracked).or_default() += 1;
+    }
+
     /// Prints all counts; false if something was never met.
     pub fn report(&self) -> bool {
         println!("cases\t{}", self.cases);
@@ -61,6 +67,7 @@ impl Tally {
             list("accepted call", &self.accepted, (0..CALLS).map(own_name)),
             list("answer", &self.answers, (0..ANSWERS).map(own_name)),
             list("place of 14", &self.places, Place::ALL.map(own_name)),
+            list("not tracked", &self.untracked, Untracked::ALL.map(own_name)),
         ];
         met.iter().all(|&met| met)
     }
