@@ -1,4 +1,4 @@
--- Request 2: before finalize no call answers 8.
+-- Request 2: while a domain is initialized no call on it answers 8.
 use Rattle.base_rules.specs.Basics.{_≡_, Bool, true, false, List, [], _∷_, ℕ, eqb, choose, need}
 use Rattle.base_rules.proofs.Facts.{refl, arith, eq-eqb, both-left, both-right}
 use Rattle.base_units.specs.declared.address.{Hpa.Hpa, Pfn.Pfn}
@@ -9,27 +9,27 @@ use Rattle.call_plan.specs.Entries.{isTracked}
 use Rattle.call_plan.specs.declared.lookup.Subject.{Subject}
 use Rattle.fact_theorems.specs.{Order.Reason, Order.number, Order.Check, Order.check, Order.firstNo}
 use Rattle.fact_theorems.specs.{Checks.domainAtHpa, Checks.allChecks, Checks.checksOf}
-use Rattle.fact_theorems.specs.Tracking.{Spares, NoTracking}
+use Rattle.fact_theorems.specs.Tracking.{NotEight, NoTracking}
 use Rattle.fact_theorems.proofs.Answers.{answered}
 
--- a check of the number n can't fail
-unfoldable spares : ℕ → List Check → Bool
-spares n [] = true
-spares n (c ∷ cs) = need (choose (eqb (number (c .why)) n) (c .well) true) false (spares n cs)
+-- no check of the number n fails
+unfoldable holds : ℕ → List Check → Bool
+holds n [] = true
+holds n (c ∷ cs) = need (choose (eqb (number (c .why)) n) (c .well) true) false (holds n cs)
 
 -- then n isn't given
 module _ (n : ℕ) (above : n ≡ 0 → ⊥) where
-  by-one : (w : Reason) (b : Bool) (cs : List Check) → (spares n cs ≡ true → firstNo cs ≡ n → ⊥) → spares n (check w b ∷ cs) ≡ true
+  by-one : (w : Reason) (b : Bool) (cs : List Check) → (holds n cs ≡ true → firstNo cs ≡ n → ⊥) → holds n (check w b ∷ cs) ≡ true
       → firstNo (check w b ∷ cs) ≡ n → ⊥
-  unfolding spares firstNo choose
-  by-one w true cs f h e = f (both-right (choose (eqb (number w) n) true true) (spares n cs) h) e
+  unfolding holds firstNo choose
+  by-one w true cs f h e = f (both-right (choose (eqb (number w) n) true true) (holds n cs) h) e
   by-one w false cs f h e =
-      let passed : false ≡ true = rw (eq-eqb (number w) n e) at (both-left (choose (eqb (number w) n) false true) (spares n cs) h) in
+      let passed : false ≡ true = rw (eq-eqb (number w) n e) at (both-left (choose (eqb (number w) n) false true) (holds n cs) h) in
       let z : _≡_ {A = ℕ} 0 1 = cc in
       omega arith
 
-  not-given : (cs : List Check) → spares n cs ≡ true → firstNo cs ≡ n → ⊥
-  unfolding spares firstNo
+  not-given : (cs : List Check) → holds n cs ≡ true → firstNo cs ≡ n → ⊥
+  unfolding holds firstNo
   not-given [] h e = above (omega arith)
   not-given (c ∷ cs) h e = by-one (c .why) (c .well) cs (not-given cs) h e
 
@@ -39,16 +39,16 @@ unfolding isTracked choose
 tracked-building fs x h n = rw (eq-eqb (x .dom .op) INITIALIZED h) refl
 
 module _ (base : Hpa) (t : Tables) (g : Gauge) where
-  spared : (c : Call) → spares 8 (allChecks base t g c) ≡ true → Spares base t g c
-  spared c s e = not-given 8 (λ z. omega arith) (allChecks base t g c) s (rw (answered base t g c) at e)
+  not-eight : (c : Call) → holds 8 (allChecks base t g c) ≡ true → NotEight base t g c
+  not-eight c s e = not-given 8 (λ z. omega arith) (allChecks base t g c) s (rw (answered base t g c) at e)
 
   -- While D is initialized none of the three calls answers 8.
   pub no-tracking : NoTracking base t g
-  unfolding spares checksOf choose
+  unfolding holds checksOf choose
   no-tracking d h =
       let tracked = tracked-building (t .frames) (domainAtHpa base t d) h in
       record {
-        unblock = λ gpa level. spared (Call.Unblock d gpa level) (rw (tracked _) refl);
-        pageremove = λ gpa. spared (Call.PageRemove d gpa) (rw (tracked _) refl);
-        septremove = λ gpa level. spared (Call.SeptRemove d gpa level) (rw (tracked _) refl);
+        unblock = λ gpa level. not-eight (Call.Unblock d gpa level) (rw (tracked _) refl);
+        pageremove = λ gpa. not-eight (Call.PageRemove d gpa) (rw (tracked _) refl);
+        septremove = λ gpa level. not-eight (Call.SeptRemove d gpa level) (rw (tracked _) refl);
       }

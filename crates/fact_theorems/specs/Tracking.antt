@@ -9,13 +9,13 @@ use Rattle.call_host.specs.Calls.{callOf}
 use Rattle.fact_theorems.specs.Checks.{domainAtHpa}
 
 module _ (base : Hpa) (t : Tables) (g : Gauge) where
-  abbrev pub Spares : Call → Type 0
-  Spares c = numberOf (callOf base t g c .answer) ≡ 8 → ⊥
+  abbrev pub NotEight : Call → Type 0
+  NotEight c = numberOf (callOf base t g c .answer) ≡ 8 → ⊥
 
   pub record Building (d : Hpa) : Type 0 where
-    pub unblock : (gpa : Gpa) (level : ℕ) → Spares (Call.Unblock d gpa level)
-    pub pageremove : (gpa : Gpa) → Spares (Call.PageRemove d gpa)
-    pub septremove : (gpa : Gpa) (level : ℕ) → Spares (Call.SeptRemove d gpa level)
+    pub unblock : (gpa : Gpa) (level : ℕ) → NotEight (Call.Unblock d gpa level)
+    pub pageremove : (gpa : Gpa) → NotEight (Call.PageRemove d gpa)
+    pub septremove : (gpa : Gpa) (level : ℕ) → NotEight (Call.SeptRemove d gpa level)
 
   abbrev pub NoTracking : Type 0
   NoTracking = (d : Hpa) → domainAtHpa base t d .dom .op ≡ INITIALIZED → Building d
