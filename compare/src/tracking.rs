@@ -4,7 +4,7 @@
 use std::fmt::{self, Display, Formatter};
 
 use reefnettle_compare::{number, Request};
-use reefnettle_twin::Machine;
+use reefnettle_twin::{op_state, Machine};
 
 use crate::places::number_of;
 use crate::requests::is_page_call;
@@ -41,7 +41,7 @@ impl Untracked {
         match answer {
             8 => Some(Untracked::Refused(request.call)),
             0 if Untracked::ALL.contains(&accepted) => {
-                is_late(&machine()?, request).then_some(accepted)
+                is_being_built(&machine()?, request).then_some(accepted)
             }
             _ => None,
         }
@@ -57,8 +57,9 @@ impl Display for Untracked {
     }
 }
 
-/// Whether the frame was blocked in the domain's epoch, or noted a later one.
-fn is_late(machine: &Machine, request: &Request) -> bool {
+/// Whether the domain is initialized, and the frame was blocked in its epoch or
+/// noted a later one.
+fn is_being_built(machine: &Machine, request: &Request) -> bool {
     let tdr = number_of(machine, request.domain.0);
     let record = machine.frames[tdr].number as usize;
     let level = match is_page_call(request.call) {
@@ -67,5 +68,7 @@ fn is_late(machine: &Machine, request: &Request) -> bool {
     };
     let way = tree::way(machine, record, request.gpa.0, level);
     let entry = way.last().expect("the way begins at the root").entry;
-    machine.frames[entry.frame as usize].epoch >= machine.records[record].epoch
+    let epoch = machine.frames[entry.frame as usize].epoch;
+    let record = &machine.records[record];
+    record.op_state == op_state::INITIALIZED && epoch >= record.epoch
 }

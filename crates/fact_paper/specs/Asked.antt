@@ -189,7 +189,7 @@ entries =
     ∷ []
 
 -- ---- 8: not tracked. Document 02, request 2: nothing is asked of an initialized domain. Of a runnable one it is, and a frame that was blocked before
--- finalize counts as any other
+-- finalize counts as any other, by one epoch below the domain's or by two
 abbrev coveredRunnable : List Call
 coveredRunnable = blockedRunnable ++ (Call.Block D (gpa 0) 1 ∷ [])
 
@@ -207,7 +207,7 @@ epochs =
     ∷ case coveredRunnable (Call.SeptRemove D (gpa 0) 1) (no 8)
     ∷ case finalized (Call.PageRemove D (gpa 0)) (no 8)
     ∷ case (finalized ++ (Call.Track D ∷ [])) (Call.PageRemove D (gpa 0)) (no 0)
-    ∷ case (tracked ++ (Call.Finalize D ∷ [])) (Call.PageRemove D (gpa 0)) (no 0)
+    ∷ case (tracked ++ (Call.Finalize D ∷ Call.Track D ∷ [])) (Call.PageRemove D (gpa 0)) (no 0)
     ∷ []
 
 unfoldable pub asked : List Case

@@ -1,12 +1,13 @@
--- Answers 12 and 14, met in cases too. No case from a fresh start meets them: 14 never follows from there, and 12 only after 2^32 - 2 tracks. So the tables
--- of a run are harmed by one word, as lent tables may be, and the call's own rule is asked (answer 13 comes before it).
+-- Answers 12 and 14, and 8 at a frame's epoch above the domain's, met in cases too. No case from a fresh start meets them: 14 never follows from there, nor
+-- such an epoch, and 12 only after 2^32 - 2 tracks. So the tables of a run are harmed by one word, as lent tables may be, and the call's own rule is asked
+-- (answer 13 comes before it).
 use Rattle.base_rules.specs.Basics.{ℕ, _^_, _-_, _≡_, List, [], _∷_, _++_}
 use Rattle.book_gauge.specs.declared.Gauge.{Gauge}
 use Rattle.book_ledger.specs.Codes.{TDCX, EPT, REG, CONFIGURED, TEARDOWN, UNINITIALIZED, INITIALIZED, RUNNABLE}
 use Rattle.book_ledger.specs.{Tables.Tables, Tables.lent, Tables.setFrame, Tables.setDomain, declared.words.Domain.Domain}
 use Rattle.base_calls.specs.{Answers.numberOf, declared.Call.Call}
 use Rattle.call_host.specs.Calls.{ruleOf}
-use Rattle.fact_cases.specs.Cases.{base, freshTables, run, gpa, D, blocked, tracked}
+use Rattle.fact_cases.specs.Cases.{base, freshTables, run, gpa, D, mapped, blocked, tracked}
 use Rattle.fact_paper.specs.Numbers.{frame, pending}
 use Rattle.fact_paper.specs.Asked.{created, configured, initialized, runnable, dead, again, shut, records, trees}
 
@@ -106,5 +107,12 @@ late =
     eachSays (domainIs (domain CONFIGURED INITIALIZED 4 4 (2 ^ 32 - 1)) (after initialized)) (Call.Track D ∷ []) 12
     ++ eachSays (domainIs (domain CONFIGURED RUNNABLE 4 4 (2 ^ 32 - 2)) (after runnable)) (Call.Track D ∷ []) 0
 
+-- ---- 8: "the frame's epoch is below the domain's", so one above it isn't tracked either. The page is blocked at epoch 2, and the record says epoch 1
+abbrev ahead : List Call
+ahead = mapped ++ (Call.Finalize D ∷ Call.Track D ∷ Call.Block D (gpa 0) 0 ∷ [])
+
+abbrev pub above : List OnTables
+above = eachSays (domainIs (domain CONFIGURED RUNNABLE 4 8 1) (after ahead)) (Call.Unblock D (gpa 0) 0 ∷ Call.PageRemove D (gpa 0) ∷ []) 8
+
 unfoldable pub harmed : List OnTables
-harmed = unrecorded ++ (followed ++ (held ++ (counts ++ (reclaimed ++ late))))
+harmed = unrecorded ++ (followed ++ (held ++ (counts ++ (reclaimed ++ (late ++ above)))))
