@@ -68,7 +68,7 @@ extern "C" {
 /* What reefnettle_version answers in an archive that fits this header. The number goes up whenever a struct, a number
  * or the layout of a lent word changes so that a header and an archive no longer fit. A new call alone doesn't move it:
  * an archive that lacks the call answers REEFNETTLE_ANSWER_UNREADABLE. */
-#define REEFNETTLE_VERSION 2
+#define REEFNETTLE_VERSION 3
 
 /* ---- Limits. Both ends belong to each range. ---- */
 
@@ -120,7 +120,7 @@ extern "C" {
  * domains: words 5r to 5r + 4 are record r. The first of them:
  *
  *   bits 0 to 6     key 32 to 95
- *   bits 7 to 9     lifecycle: HKID assigned 0, keys configured 1, blocked 2, teardown 3
+ *   bits 7 to 9     lifecycle: HKID assigned 0, keys configured 1, blocked 2, teardown 3, blocked and written back 4
  *   bits 10 and 11  op state: uninitialized 0, initialized 1, runnable 2
  *   bits 12 to 14   how many control pages are listed, 0 to 4
  *   bits 15 to 29   children: how many frames the domain owns, its TDR left out; 0 to the frames of the window
@@ -227,7 +227,8 @@ enum {
     REEFNETTLE_CALL_KEYFREE = 16,
     REEFNETTLE_CALL_RECLAIM = 17,
     REEFNETTLE_CALL_READPAGE = 18,
-    REEFNETTLE_CALL_READENTRY = 19
+    REEFNETTLE_CALL_READENTRY = 19,
+    REEFNETTLE_CALL_CACHEWB = 20
 };
 
 /* The first check that fails gives the answer. The order is 13, 1, D's 2, 3, 4, 5, F's 2, 10, 6, 7, 8, 9, 11, 12, 14; a
@@ -274,7 +275,8 @@ enum {
     REEFNETTLE_LIFECYCLE_HKID_ASSIGNED = 0,
     REEFNETTLE_LIFECYCLE_KEYS_CONFIGURED = 1,
     REEFNETTLE_LIFECYCLE_BLOCKED = 2,
-    REEFNETTLE_LIFECYCLE_TEARDOWN = 3
+    REEFNETTLE_LIFECYCLE_TEARDOWN = 3,
+    REEFNETTLE_LIFECYCLE_WRITTEN_BACK = 4 /* blocked and written back; on its way a domain has it between 2 and 3 */
 };
 
 enum {
@@ -541,7 +543,14 @@ static inline reefnettle_answer reefnettle_flushdone(const reefnettle_model *mod
     return reefnettle_ask_domain(model, REEFNETTLE_CALL_FLUSHDONE, domain);
 }
 
-/* Frees the key of a blocked domain, which is then in teardown. */
+/* Writes the caches back: every blocked domain becomes blocked and written back, and no other lent word changes. It has
+ * no operands, and only answer 13 refuses it. A domain that is blocked later needs a new one. */
+static inline reefnettle_answer reefnettle_cachewb(const reefnettle_model *model)
+{
+    return reefnettle_ask_model(model, reefnettle_request_of(REEFNETTLE_CALL_CACHEWB));
+}
+
+/* Frees the key of a domain that is blocked and written back, which is then in teardown. */
 static inline reefnettle_answer reefnettle_keyfree(const reefnettle_model *model, reefnettle_hpa domain)
 {
     return reefnettle_ask_domain(model, REEFNETTLE_CALL_KEYFREE, domain);

@@ -5,7 +5,8 @@
 # moved on by accepted answers alone. Answers 12, 13 and 14 can't follow from a script of lines 10000: there is no reason for them here.
 #
 # The account: TYPE, OWNER, BLOCKED_AT and TABLE by frame; KEY, LIFE, OP, PAGES, CHILDREN, EPOCH and RECORD by the frame of the TDR; STATE and
-# LEADS by table and index, where a table is named by its frame, and a root by its TDR's; TDR_OF by record and EPT_OF by table in use.
+# LEADS by table and index, where a table is named by its frame, and a root by its TDR's; TDR_OF by record and EPT_OF by table in use;
+# cachewb_line, the line of the last cachewb.
 # Numbers of a script go up to 2^64 - 1 and a double doesn't, so an operand stays text until is_below has seen that it is short.
 
 function limits(   level) {
@@ -20,7 +21,7 @@ function limits(   level) {
 
 function names() {
     name_codes("type", "NDA,TDR,TDCX,EPT,REG")
-    name_codes("lifecycle", "HKID assigned,keys configured,blocked,teardown")
+    name_codes("lifecycle", "HKID assigned,keys configured,blocked,teardown,blocked and written back")
     name_codes("op state", "uninitialized,initialized,runnable")
     name_codes("state", "FREE,NL_MAPPED,MAPPED,PENDING,NL_BLOCKED,BLOCKED,PENDING_BLOCKED")
     NDA = 0; TDR = 1; TDCX = 2; EPT = 3; REG = 4
@@ -52,7 +53,8 @@ function rules() {
     rule("pageremove", "D G",     0,     "1",      "4",    "12",    "56",      "",     "tracked")
     rule("septremove", "D G L",   1,     "1",      "4",    "12",    "4",       "",     "tracked empty")
     rule("flushdone",  "D",       "",    "01",     "",     "",      "",        2,      "")
-    rule("keyfree",    "D",       "",    "2",      "",     "",      "",        3,      "")
+    rule("cachewb",    "",        "",    "",       "",     "",      "",        4,      "")
+    rule("keyfree",    "D",       "",    "4",      "",     "",      "",        3,      "")
     rule("reclaim",    "F",       "",    "3",      "",     "",      "",        "",     "")
     rule("readpage",   "F",       "",    "",       "",     "",      "",        "",     "")
     rule("readentry",  "D G L",   0,     "1",      "4",    "12",    "0123456", "",     "")
@@ -141,7 +143,7 @@ function judge_line(line,   n, field, roles, count, i) {
         if (judge_number(2 * i + 1 > n, field[2 * i + 1], UNIT[roles[i]])) return 1
         TEXT[roles[i]] = field[2 * i + 1]
     }
-    if (n > 2 * count + 1) return unreadable(call " has fields " (2 * count + 1) ", and the line has fields " n)
+    if (n > 2 * count + 1) return unreadable(call " has fields " (2 * count + 1) (count ? "" : ", its name alone") ", and the line has fields " n)
     return 0
 }
 
@@ -239,7 +241,14 @@ function judge_domain() {
 function judge_lifecycle(   tdr) {
     tdr = FRAME["D"]
     if (LIFECYCLES[call] == "" || has(LIFECYCLES[call], LIFE[tdr])) return 0
-    return refuse(3, the_domain(tdr) " is in " coded("lifecycle", LIFE[tdr]) ", and " call " needs " any_of("lifecycle", LIFECYCLES[call]))
+    return refuse(3, the_domain(tdr) " is in " coded("lifecycle", LIFE[tdr]) ", and " call " needs " any_of("lifecycle", LIFECYCLES[call]) \
+        (call == "keyfree" && LIFE[tdr] == BLOCKED ? ": " missing_write_back() : ""))
+}
+
+# A cachewb reaches every blocked domain, so one that is blocked now was blocked after the last.
+function missing_write_back() {
+    if (!cachewb_line) return "cachewb is missing"
+    return "it was blocked after the cachewb of line " cachewb_line ", and another is missing"
 }
 
 # Answer 4.
@@ -270,7 +279,7 @@ function judge_key(   record, tdr) {
     for (record = 0; record < RECORDS; record++) {
         if (!(record in TDR_OF)) continue
         tdr = TDR_OF[record]
-        if (KEY[tdr] == TEXT["K"] + 0 && LIFE[tdr] < TEARDOWN)
+        if (KEY[tdr] == TEXT["K"] + 0 && LIFE[tdr] != TEARDOWN)
             return refuse(10, "key " TEXT["K"] " is taken: " the_domain(tdr) " has it, in " coded("lifecycle", LIFE[tdr]))
     }
     return 0
@@ -349,6 +358,7 @@ function carry_out() {
     else if (call == "addcx") list_page(FRAME["D"], FRAME["F"])
     else if (call == "init" || call == "finalize") move_op_state(FRAME["D"])
     else if (call == "keyconfig" || call == "flushdone" || call == "keyfree") move_lifecycle(FRAME["D"])
+    else if (call == "cachewb") write_back()
     else if (call == "septadd" || call == "pageadd" || call == "pageaug") enter(FRAME["D"], FRAME["F"])
     else if (call == "block") block(FRAME["D"], LEADS[table, place])
     else if (call == "unblock") unblock(FRAME["D"], LEADS[table, place])
@@ -403,7 +413,20 @@ function move_lifecycle(tdr,   before) {
     before = coded("lifecycle", LIFE[tdr])
     LIFE[tdr] = BECOMES[call]
     why = the_domain(tdr) " goes from " before " to " coded("lifecycle", LIFE[tdr])
-    if (LIFE[tdr] >= BLOCKED) why = why ", and key " KEY[tdr] " is " (LIFE[tdr] == BLOCKED ? "still taken" : "free")
+    if (call != "keyconfig") why = why ", and key " KEY[tdr] " is " (LIFE[tdr] == TEARDOWN ? "free" : "still taken")
+}
+
+# The one call that moves several domains.
+function write_back(   record, tdr, count, said) {
+    cachewb_line = NR - 1
+    for (record = 0; record < RECORDS; record++) {
+        if (!(record in TDR_OF) || LIFE[TDR_OF[record]] != BLOCKED) continue
+        tdr = TDR_OF[record]
+        LIFE[tdr] = BECOMES[call]
+        said = said (count++ ? ", and " : "") "the one at hpa " hpa_of(tdr) ", with key " KEY[tdr] " still taken"
+    }
+    if (!count) why = "no domain is in " coded("lifecycle", BLOCKED) ", and nothing changes"
+    else why = "domains " count " go from " coded("lifecycle", BLOCKED) " to " coded("lifecycle", BECOMES[call]) ": " said
 }
 
 function move_epoch(tdr) {

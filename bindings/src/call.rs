@@ -66,7 +66,9 @@ pub enum Call {
     SeptRemove { domain: Hpa, gpa: Gpa, level: Level },
     /// Blocks the domain for good.
     FlushDone { domain: Hpa },
-    /// Frees the key of a blocked domain.
+    /// Writes the caches back, for every blocked domain.
+    CacheWb,
+    /// Frees the key of a domain that is blocked and written back.
     KeyFree { domain: Hpa },
     /// Takes a frame back from a domain in teardown.
     Reclaim { frame: Hpa },
@@ -141,6 +143,7 @@ fn line_of(call: Call) -> (&'static str, Vec<Operand>) {
         Call::PageRemove { domain, gpa } => ("pageremove", vec![Hpa(domain), Gpa(gpa)]),
         Call::SeptRemove { domain, gpa, level } => entry("septremove", domain, gpa, level),
         Call::FlushDone { domain } => ("flushdone", vec![Hpa(domain)]),
+        Call::CacheWb => ("cachewb", vec![]),
         Call::KeyFree { domain } => ("keyfree", vec![Hpa(domain)]),
         Call::Reclaim { frame } => ("reclaim", vec![Hpa(frame)]),
         Call::ReadPage { frame } => ("readpage", vec![Hpa(frame)]),
@@ -183,6 +186,7 @@ fn read_line(line: &str) -> Option<Call> {
             Call::SeptRemove { domain, gpa, level }
         }
         ("flushdone", &[Hpa(domain)]) => Call::FlushDone { domain },
+        ("cachewb", &[]) => Call::CacheWb,
         ("keyfree", &[Hpa(domain)]) => Call::KeyFree { domain },
         ("reclaim", &[Hpa(frame)]) => Call::Reclaim { frame },
         ("readpage", &[Hpa(frame)]) => Call::ReadPage { frame },

@@ -152,8 +152,8 @@ impl Model {
     /// use reefnettle::{Model, Sizes, Window};
     ///
     /// let mut model = Model::fresh(Window::BASE_LEAST, Sizes::PROGRAM)?;
-    /// let request = Request { call: 20, ..Request::default() };
-    /// assert_eq!(model.ask_raw(request).number, 15); // there is no call 20
+    /// let request = Request { call: 21, ..Request::default() };
+    /// assert_eq!(model.ask_raw(request).number, 15); // there is no call 21
     /// # Ok::<(), reefnettle::Refusal>(())
     /// ```
     pub fn ask_raw(&mut self, request: Request) -> Answer {
@@ -193,6 +193,7 @@ impl Model {
             Call::PageRemove { domain, gpa } => self.pageremove(domain, gpa)?,
             Call::SeptRemove { domain, gpa, level } => self.septremove(domain, gpa, level)?,
             Call::FlushDone { domain } => self.flushdone(domain)?,
+            Call::CacheWb => self.cachewb()?,
             Call::KeyFree { domain } => self.keyfree(domain)?,
             Call::Reclaim { frame } => self.reclaim(frame)?,
             Call::ReadPage { frame } => return self.readpage(frame).map(Reply::Page),
@@ -350,7 +351,32 @@ impl Model {
         self.accept_on_domain(number::FLUSHDONE, domain)
     }
 
-    /// Frees the key of a blocked domain, which is then in teardown.
+    /// Writes the caches back: every blocked domain becomes blocked and written
+    /// back, and no other stored word changes. It is refused by
+    /// [`Refusal::OutOfRange`] alone. A domain that is blocked later needs a new
+    /// one.
+    ///
+    /// ```
+    /// use reefnettle::{Key, Model, Refusal, Sizes, Window};
+    ///
+    /// let mut model = Model::fresh(Window::BASE_LEAST, Sizes::PROGRAM)?;
+    /// let domain = Window::BASE_LEAST;
+    /// model.create(domain, Key(32))?;
+    /// model.flushdone(domain)?;
+    /// assert_eq!(model.keyfree(domain), Err(Refusal::Lifecycle));
+    /// model.cachewb()?;
+    /// model.keyfree(domain)?;
+    /// # Ok::<(), Refusal>(())
+    /// ```
+    pub fn cachewb(&mut self) -> Result<(), Refusal> {
+        self.accept(Request {
+            call: number::CACHEWB,
+            ..Request::default()
+        })
+    }
+
+    /// Frees the key of a domain that is blocked and written back, which is then
+    /// in teardown.
     pub fn keyfree(&mut self, domain: Hpa) -> Result<(), Refusal> {
         self.accept_on_domain(number::KEYFREE, domain)
     }

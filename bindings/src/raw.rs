@@ -8,7 +8,7 @@ use crate::units::{Gpa, Hpa, Key, Level};
 
 /// The version of the library that this package is for. It goes up when a struct,
 /// a number or the layout of a stored word changes, so that the two no longer fit.
-pub const VERSION: u64 = 2;
+pub const VERSION: u64 = 3;
 
 /// Numbers of the calls.
 #[allow(missing_docs)]
@@ -33,6 +33,7 @@ pub mod number {
     pub const RECLAIM: u64 = 17;
     pub const READPAGE: u64 = 18;
     pub const READENTRY: u64 = 19;
+    pub const CACHEWB: u64 = 20;
 }
 
 /// A call and its operands. Operands that the call doesn't have aren't read.

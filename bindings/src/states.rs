@@ -94,6 +94,9 @@ coded! {
         Blocked = 2 "blocked",
         /// Lifecycle 3: its key is free, and its frames can be reclaimed.
         Teardown = 3 "teardown",
+        /// Lifecycle 4: blocked and written back, it still has its key. On its
+        /// way a domain has it between 2 and 3.
+        WrittenBack = 4 "written back",
     }
 }
 

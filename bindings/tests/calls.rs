@@ -2,8 +2,8 @@
 
 use reefnettle::raw::Request;
 use reefnettle::{
-    Call, Entry, EntryState, Frame, FrameType, Gauge, Gpa, Hpa, Key, Level, Model, Page, Parts,
-    Refusal, Sizes, Window,
+    Call, Entry, EntryState, Frame, FrameType, Gauge, Gpa, Hpa, Key, Level, Lifecycle, Model, Page,
+    Parts, Record, Refusal, Reply, Sizes, Window,
 };
 
 const BASE: Hpa = Window::BASE_LEAST;
@@ -96,6 +96,8 @@ fn a_table_goes_when_it_is_empty() -> Result<(), Refusal> {
 fn a_domain_is_wound_down() -> Result<(), Refusal> {
     let (mut model, domain) = (built(), hpa(0));
     model.flushdone(domain)?;
+    assert_eq!(model.keyfree(domain), Err(Refusal::Lifecycle));
+    model.cachewb()?;
     assert_eq!(model.reclaim(hpa(8)), Err(Refusal::Lifecycle));
     model.keyfree(domain)?;
     for frame in (1..=8).rev() {
@@ -108,6 +110,31 @@ fn a_domain_is_wound_down() -> Result<(), Refusal> {
     };
     assert_eq!(model.readpage(domain)?, free);
     assert_eq!(model.gauge().fill, 0.0);
+    Ok(())
+}
+
+#[test]
+fn a_domain_blocked_after_a_write_back_needs_another() -> Result<(), Refusal> {
+    let (mut model, first, second) = (built(), hpa(0), hpa(9));
+    model.create(second, Key(33))?;
+    model.flushdone(first)?;
+    model.cachewb()?;
+    model.flushdone(second)?;
+    let stages = |model: &Model| {
+        let record = |number| model.parts().record(Record(number)).unwrap();
+        [0, 1].map(|number| record(number).lifecycle)
+    };
+    assert_eq!(stages(&model), [Lifecycle::WrittenBack, Lifecycle::Blocked]);
+    assert_eq!(model.create(hpa(10), Key(32)), Err(Refusal::KeyTaken));
+    assert_eq!(model.keyfree(second), Err(Refusal::Lifecycle));
+    model.keyfree(first)?;
+    assert_eq!(model.ask(&Call::CacheWb)?, Reply::Done);
+    model.keyfree(second)?;
+    assert_eq!(stages(&model), [Lifecycle::Teardown; 2]);
+    // None is blocked any more.
+    let before = model.clone();
+    model.cachewb()?;
+    assert_eq!(model, before);
     Ok(())
 }
 
@@ -229,7 +256,7 @@ fn any_lengths_may_be_lent() {
 fn a_call_that_there_is_not_is_unreadable() {
     let mut model = built();
     let before = model.clone();
-    for call in [20, u64::MAX] {
+    for call in [21, u64::MAX] {
         let request = Request {
             call,
             ..Request::default()

@@ -9,7 +9,7 @@ fn read(line: &str) -> Result<Call, Refusal> {
 }
 
 /// A line for each name, and the call that it is.
-const LINES: [(&str, &str); 18] = [
+const LINES: [(&str, &str); 19] = [
     (
         "create hpa 2 key 5",
         "Create { frame: Hpa(2), key: Key(5) }",
@@ -51,6 +51,7 @@ const LINES: [(&str, &str); 18] = [
         "SeptRemove { domain: Hpa(1), gpa: Gpa(3), level: Level(4) }",
     ),
     ("flushdone hpa 1", "FlushDone { domain: Hpa(1) }"),
+    ("cachewb", "CacheWb"),
     ("keyfree hpa 1", "KeyFree { domain: Hpa(1) }"),
     ("reclaim hpa 2", "Reclaim { frame: Hpa(2) }"),
     ("readpage hpa 2", "ReadPage { frame: Hpa(2) }"),
@@ -69,7 +70,7 @@ fn every_name_is_read() {
 
 #[test]
 fn every_call_of_the_script_has_a_line() {
-    let calls = number::CREATE..=number::READENTRY;
+    let calls = number::CREATE..=number::CACHEWB;
     assert_eq!(LINES.len(), calls.count());
 }
 
@@ -126,6 +127,14 @@ fn other_lines_are_not() {
         "Readpage hpa 1",
         "readpage hpa ١",
         " readpage hpa 1",
+        "cachewb ",
+        "cachewb 0",
+        "cachewb hpa",
+        "cachewb hpa 1",
+        "cachewb\r",
+        " cachewb",
+        "Cachewb",
+        "cachewbs",
     ] {
         assert_eq!(read(line), Err(Refusal::Unreadable), "{line:?}");
     }

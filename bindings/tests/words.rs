@@ -27,7 +27,7 @@ fn any_word_unpacks_and_packs_to_itself_or_has_no_such_code() {
         let record = DomainRecord::unpack([word, !word, word / 3, 0, u64::MAX]);
         let entry = EntryWord::unpack(word as u32);
         assert_eq!(frame.is_ok(), word % 8 <= 4);
-        assert_eq!(record.is_ok(), word >> 7 & 7 <= 3 && word >> 10 & 3 <= 2);
+        assert_eq!(record.is_ok(), word >> 7 & 7 <= 4 && word >> 10 & 3 <= 2);
         assert_eq!(entry.is_ok(), word % 8 <= 6);
         if let Ok(frame) = frame {
             assert_eq!(frame.pack(), Ok(word));
@@ -255,7 +255,7 @@ fn put(parts: &mut Parts, state: EntryState, frame: Frame) {
     parts.set_entry(WAY[3], 511, entry).unwrap();
 }
 
-const OUT_OF_RANGE: [(&str, Slip); 17] = [
+const OUT_OF_RANGE: [(&str, Slip); 18] = [
     ("base", |p| p.base.0 += 4096),
     ("a word less of frames", |p| p.frames.truncate(1023)),
     ("no words of stock", |p| p.stock.clear()),
@@ -277,6 +277,7 @@ const OUT_OF_RANGE: [(&str, Slip); 17] = [
     ("key", |p| {
         change_record(p, |record| record.key = Key(Key::MOST.0 + 1))
     }),
+    ("lifecycle 5 in place of 1", |p| p.domains[0] += 4 << 7),
     ("pages listed", |p| {
         change_record(p, |record| record.listed = 5)
     }),

@@ -24,6 +24,10 @@ pub mod number {
     pub const RECLAIM: u64 = 17;
     pub const READPAGE: u64 = 18;
     pub const READENTRY: u64 = 19;
+    pub const CACHEWB: u64 = 20;
+
+    /// No number above this one names a call.
+    pub const LAST: u64 = CACHEWB;
 }
 
 /// A call and its operands.

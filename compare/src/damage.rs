@@ -9,6 +9,10 @@ use reefnettle_twin::{
 use crate::requests::is_page_call;
 use crate::tree::{self, Block, Step};
 
+/// The codes of a lifecycle are below this.
+const LIFECYCLES: u64 = lifecycle::WRITTEN_BACK + 1;
+const LIFECYCLE_BITS: u32 = 3;
+
 /// Changes numbers of a machine, most often such as a request comes by.
 pub struct Damage<'a> {
     rng: &'a mut Rng,
@@ -95,6 +99,21 @@ impl<'a> Damage<'a> {
         }
     }
 
+    /// Gives each record any lifecycle; an unused one may have any code. Often a
+    /// domain's TDR is gone, so that no frame names its record.
+    pub fn change_lifecycles(&mut self) {
+        for record in &mut self.machine.records {
+            let any = self.rng.below(1 << LIFECYCLE_BITS);
+            let in_range = self.rng.below(LIFECYCLES);
+            record.lifecycle = if record.in_use { in_range } else { any };
+        }
+        let mut frames = self.machine.frames.iter_mut();
+        let tdr = frames.find(|frame| frame.kind == frame_type::TDR);
+        if let Some(tdr) = tdr.filter(|_| self.rng.chance(500)) {
+            *tdr = Frame::default();
+        }
+    }
+
     fn change_frame(&mut self) {
         let at = self.frame();
         let kind = self.rng.below(frame_type::REG + 1);
@@ -162,7 +181,7 @@ impl<'a> Damage<'a> {
         let record = &mut self.machine.records[at];
         match rng.below(4) {
             0 => record.key = KEY_LOWEST + rng.below(KEY_HIGHEST - KEY_LOWEST + 1),
-            1 => record.lifecycle = rng.below(lifecycle::TEARDOWN + 1),
+            1 => record.lifecycle = rng.below(LIFECYCLES),
             2 => record.op_state = rng.below(op_state::RUNNABLE + 1),
             _ => {
                 record.page_count = rng.below(CONTROL_PAGES as u64 + 1);
@@ -214,7 +233,7 @@ impl<'a> Damage<'a> {
         match self.rng.below(9) {
             0 => record.key = self.rng.below(KEY_LOWEST),
             1 => record.key = self.above(KEY_HIGHEST + 1, 7),
-            2 => record.lifecycle = self.above(lifecycle::TEARDOWN + 1, 3),
+            2 => record.lifecycle = self.above(LIFECYCLES, LIFECYCLE_BITS),
             3 => record.op_state = self.above(op_state::RUNNABLE + 1, 2),
             4 => record.page_count = self.above(CONTROL_PAGES as u64 + 1, 3),
             5 => record.pages[page] = self.above(if listed { frames } else { 1 }, 63),

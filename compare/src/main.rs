@@ -8,8 +8,9 @@
 //! DOOR and its words are the command that starts the library's door, which
 //! `compare/run` builds. The same seed gives the same cases. It fails where the
 //! sides differ, if the door ends or gives no answer within the patience, and if
-//! a window, an answer, an accepted call, a place of answer 14 or a call on what
-//! isn't tracked, in each op state, was never met.
+//! a window, an answer, an accepted call, a place of answer 14, a call on what
+//! isn't tracked, in each op state, or something that cachewb sweeps or leaves
+//! was never met.
 
 mod damage;
 mod floats;
@@ -18,6 +19,7 @@ mod places;
 mod requests;
 mod sides;
 mod spoil;
+mod sweeping;
 mod tally;
 mod tracking;
 mod tree;
@@ -32,6 +34,7 @@ use reefnettle_twin::{Machine, Rng};
 use places::Place;
 use requests::Requests;
 use spoil::Spoil;
+use sweeping::Sweep;
 use tally::Tally;
 use tracking::Untracked;
 
@@ -170,6 +173,9 @@ impl Comparison {
         let untracked = Untracked::find(request, answer, || layout::unpack(&lent));
         if let Some(untracked) = untracked {
             self.tally.note_untracked(untracked);
+        }
+        for sweep in Sweep::find(request, answer, || layout::unpack(&lent)) {
+            self.tally.note_sweep(sweep);
         }
         Ok(library.lent)
     }

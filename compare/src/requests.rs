@@ -59,7 +59,9 @@ impl<'a> Requests<'a> {
         } = self.machine.records[record];
         let call = match lifecycle {
             lifecycle::HKID_ASSIGNED => number::KEYCONFIG,
-            lifecycle::BLOCKED => number::KEYFREE,
+            // Seldom the key is asked for before the write-back.
+            lifecycle::BLOCKED if self.rng.chance(800) => number::CACHEWB,
+            lifecycle::BLOCKED | lifecycle::WRITTEN_BACK => number::KEYFREE,
             lifecycle::TEARDOWN => return self.reclaim(tdr, request),
             _ if page_count < CONTROL_PAGES as u64 => number::ADDCX,
             _ if op_state == op_state::UNINITIALIZED => number::INIT,
@@ -134,7 +136,7 @@ impl<'a> Requests<'a> {
     }
 
     fn call(&mut self) -> u64 {
-        let known = number::READENTRY + 1;
+        let known = number::LAST + 1;
         if self.rng.chance(970) {
             return self.rng.below(known);
         }

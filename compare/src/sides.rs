@@ -10,7 +10,7 @@ use crate::layout;
 /// The twin's side. What the twin has no words for is judged here: a call that
 /// there isn't, lengths that fit no sizes, and spare bits of the stock.
 pub fn ask_twin(lent: &Parts, request: &Request) -> Outcome {
-    if request.call > number::READENTRY {
+    if request.call > number::LAST {
         return refused(lent, 15);
     }
     let Some(mut machine) = layout::unpack(lent) else {
@@ -78,6 +78,7 @@ fn twin_call(request: &Request) -> Call {
         number::RECLAIM => Call::Reclaim { page },
         number::READPAGE => Call::ReadPage { page },
         number::READENTRY => Call::ReadEntry { domain, gpa, level },
+        number::CACHEWB => Call::CacheWb,
         call => unreachable!("call {call} is none of the twin's"),
     }
 }

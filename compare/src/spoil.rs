@@ -14,6 +14,8 @@ pub enum Spoil {
     Nothing,
     /// Stored numbers changed to others in range.
     InRange,
+    /// Any lifecycle in each record, in use or not.
+    Lifecycles,
     /// A stored number out of range.
     OutOfRange,
     /// Bits turned in any words, spare ones of the stock too.
@@ -29,9 +31,10 @@ pub enum Spoil {
 }
 
 impl Spoil {
-    pub const ALL: [Spoil; 8] = [
+    pub const ALL: [Spoil; 9] = [
         Spoil::Nothing,
         Spoil::InRange,
+        Spoil::Lifecycles,
         Spoil::OutOfRange,
         Spoil::StrayBits,
         Spoil::Sizes,
@@ -42,7 +45,7 @@ impl Spoil {
 
     /// One of them; answer 14 has the most places to come by.
     pub fn draw(rng: &mut Rng) -> Spoil {
-        Spoil::ALL[rng.weighted(&[20, 45, 8, 6, 6, 1, 6, 8])]
+        Spoil::ALL[rng.weighted(&[20, 45, 8, 8, 6, 6, 1, 6, 8])]
     }
 
     /// The words of a machine, spoilt where a request comes by.
@@ -50,6 +53,7 @@ impl Spoil {
         let mut machine = machine.clone();
         match self {
             Spoil::InRange => Damage::aimed(rng, &mut machine, request).in_range(),
+            Spoil::Lifecycles => Damage::aimed(rng, &mut machine, request).change_lifecycles(),
             Spoil::OutOfRange => Damage::aimed(rng, &mut machine, request).out_of_range(),
             _ => {}
         }

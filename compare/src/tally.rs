@@ -7,10 +7,11 @@ use reefnettle_compare::number;
 
 use crate::places::Place;
 use crate::spoil::{Sizes, Spoil, SIZES};
+use crate::sweeping::Sweep;
 use crate::tracking::Untracked;
 
 const ANSWERS: u64 = 16;
-const CALLS: u64 = number::READENTRY + 1;
+const CALLS: u64 = number::LAST + 1;
 
 /// Counts of what the cases met.
 #[derive(Default)]
@@ -22,6 +23,7 @@ pub struct Tally {
     answers: BTreeMap<u64, u64>,
     places: BTreeMap<Place, u64>,
     untracked: BTreeMap<Untracked, u64>,
+    sweeps: BTreeMap<Sweep, u64>,
 }
 
 impl Tally {
@@ -50,6 +52,10 @@ impl Tally {
         *self.untracked.entry(untracked).or_default() += 1;
     }
 
+    pub fn note_sweep(&mut self, sweep: Sweep) {
+        *self.sweeps.entry(sweep).or_default() += 1;
+    }
+
     /// Prints all counts; false if something was never met.
     pub fn report(&self) -> bool {
         println!("cases\t{}", self.cases);
@@ -68,6 +74,7 @@ impl Tally {
             list("answer", &self.answers, (0..ANSWERS).map(own_name)),
             list("place of 14", &self.places, Place::ALL.map(own_name)),
             list("not tracked", &self.untracked, Untracked::ALL.map(own_name)),
+            list("cachewb", &self.sweeps, Sweep::ALL.map(own_name)),
         ];
         met.iter().all(|&met| met)
     }

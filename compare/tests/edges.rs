@@ -37,7 +37,7 @@ fn read_tdr() -> Request {
 /// What is changed, how, and whether the state is still in range.
 type Case = (&'static str, fn(&mut Parts), bool);
 
-const CASES: [Case; 43] = [
+const CASES: [Case; 44] = [
     ("nothing", |_| {}, true),
     ("base", |p| p.base.0 += 4096, false),
     // frames: an epoch, a number, an owner that the type lacks or that is too large
@@ -90,6 +90,11 @@ const CASES: [Case; 43] = [
     (
         "life 4",
         |p| p.domains[0] = scalars(95, 4, 1, 4, 8, 1),
+        true,
+    ),
+    (
+        "life 5",
+        |p| p.domains[0] = scalars(95, 5, 1, 4, 8, 1),
         false,
     ),
     ("op 3", |p| p.domains[0] = scalars(95, 3, 3, 4, 8, 1), false),

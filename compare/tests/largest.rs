@@ -1,6 +1,6 @@
-//! The last record and the last table at the largest sizes, and the lowest
-//! unused one wherever it may be there. What is expected was written from the
-//! paper.
+//! The last record and the last table at the largest sizes, the lowest unused
+//! one wherever it may be there, and the sweep of all records. What is expected
+//! was written from the paper.
 
 mod common;
 #[allow(dead_code)] // the tree of its example is for other tests
@@ -154,7 +154,11 @@ fn the_last_table_is_given_back_and_taken_again() {
 fn the_last_record_is_given_back_with_all_frames() {
     let mut door = common::open_door();
     let taken = last_ones_taken(&mut door);
-    let mut teardown = vec![(number::FLUSHDONE, 0), (number::KEYFREE, 0)];
+    let mut teardown = vec![
+        (number::FLUSHDONE, 0),
+        (number::CACHEWB, 0),
+        (number::KEYFREE, 0),
+    ];
     teardown.extend((ADDED..=DOMAIN).map(|frame| (number::RECLAIM, frame)));
     let ended = calls(&mut door, taken, &teardown);
     let before = all_but_the_last();
@@ -233,6 +237,36 @@ fn the_lowest_unused_one_is_found_in_a_full_word_and_across_words() {
                 let found = number_taken(&mut door, &create(9), &with_domain(lent));
                 assert_eq!(found, (lowest < records).then_some(lowest));
             }
+        }
+    }
+}
+
+/// Every record is blocked; in use are all, each second, each third, the first
+/// and the last, or the first alone. The records begin with a word of the stock,
+/// or in the midst of one.
+#[test]
+fn all_records_in_use_are_swept_and_no_others() {
+    let mut door = common::open_door();
+    let cachewb = Request {
+        call: number::CACHEWB,
+        ..Request::default()
+    };
+    let [blocked, written_back] = [2, 4].map(|life| scalars(95, life, 2, 0, 7, 3));
+    for tables in [TABLES, TABLES - 4] {
+        for step in [1, 2, 3, RECORDS - 1, RECORDS] {
+            let in_use = |record: usize| record % step == 0;
+            let mut lent = stocked(RECORDS, tables, |block| {
+                block < tables || in_use(block - tables)
+            });
+            lent.domains = [blocked, 0, 0, 0, 0].repeat(RECORDS);
+            let mut expected = lent.clone();
+            for record in (0..RECORDS).filter(|&record| in_use(record)) {
+                expected.domains[5 * record] = written_back;
+            }
+            let swept = accepted(&mut door, &lent, cachewb);
+            assert!(swept == expected, "tables {tables}, step {step}");
+            let again = accepted(&mut door, &swept, cachewb);
+            assert!(again == expected, "tables {tables}, step {step}");
         }
     }
 }

@@ -18,6 +18,9 @@ const BASE: Hpa = Hpa(1 << 30);
 const NEXT_TO_LAST: u64 = 4611686016280052896;
 const ALL_CHILDREN: u64 = 1090536608;
 
+/// Those of a new domain with key 32 that is blocked.
+const BLOCKED: u64 = 1073742112;
+
 enum Step {
     /// Asked, and told by a line.
     Told(Request),
@@ -145,6 +148,13 @@ fn septremove(gpa: Gpa, level: Level) -> Request {
 
 fn flushdone(domain: Hpa) -> Request {
     on_domain(number::FLUSHDONE, domain)
+}
+
+fn cachewb() -> Request {
+    Request {
+        call: number::CACHEWB,
+        ..Request::default()
+    }
 }
 
 fn keyfree(domain: Hpa) -> Request {
@@ -364,12 +374,16 @@ fn augments() -> Vec<Step> {
     ])
 }
 
-/// Every frame of a domain reclaimed, its TDR last.
+/// A key that isn't free before the write-back; then every frame of the domain
+/// reclaimed, its TDR last.
 fn teardown() -> Vec<Step> {
     built(vec![
         ask(septadd(Gpa(0), Level(3), at(5))),
         ask(reclaim(at(5))),
         ask(flushdone(at(0))),
+        ask(reclaim(at(5))),
+        ask(keyfree(at(0))),
+        ask(cachewb()),
         ask(reclaim(at(5))),
         ask(keyfree(at(0))),
         ask(keyfree(at(0))),
@@ -394,10 +408,73 @@ fn keys() -> Vec<Step> {
         ask(create(at(2), Key(34))),
         ask(flushdone(at(0))),
         ask(create(at(2), Key(32))),
+        ask(cachewb()),
+        ask(create(at(2), Key(32))),
         ask(keyfree(at(0))),
         ask(create(at(2), Key(32))),
         ask(reclaim(at(0))),
         ask(create(at(2), Key(32))),
+    ])
+}
+
+/// Two domains, one blocked before a write-back and one after it; and a
+/// write-back where none is blocked.
+fn two() -> Vec<Step> {
+    fresh(vec![
+        ask(create(at(0), Key(32))),
+        ask(create(at(1), Key(33))),
+        ask(cachewb()),
+        ask(flushdone(at(0))),
+        ask(cachewb()),
+        ask(flushdone(at(1))),
+        ask(keyfree(at(1))),
+        ask(keyfree(at(0))),
+        ask(keyfree(at(1))),
+        ask(cachewb()),
+        ask(keyfree(at(0))),
+        ask(keyfree(at(1))),
+        ask(reclaim(at(1))),
+        ask(reclaim(at(0))),
+    ])
+}
+
+/// A domain that is blocked and written back: nothing but keyfree suits it.
+fn written() -> Vec<Step> {
+    built(vec![
+        Step::Quiet(septadd(Gpa(0), Level(3), at(5))),
+        Step::Quiet(flushdone(at(0))),
+        ask(cachewb()),
+        ask(cachewb()),
+        ask(keyconfig(at(0))),
+        ask(addcx(at(0), at(6))),
+        ask(init(at(0))),
+        ask(septadd(Gpa(0), Level(2), at(6))),
+        ask(finalize(at(0))),
+        ask(block(Gpa(0), Level(3))),
+        ask(track(at(0))),
+        ask(readentry(Gpa(0), Level(3))),
+        ask(flushdone(at(0))),
+        ask(reclaim(at(5))),
+        ask(create(at(6), Key(32))),
+        ask(keyfree(at(0))),
+    ])
+}
+
+/// A blocked record is left where it is unused, and swept where it is in use,
+/// though no TDR names it. Lifecycle 5 is none.
+fn sweeps() -> Vec<Step> {
+    fresh(vec![
+        Step::Record(BLOCKED),
+        ask(cachewb()),
+        Step::Stock(16),
+        Step::Frame(0, 1),
+        ask(keyfree(at(0))),
+        Step::Frame(0, 0),
+        ask(cachewb()),
+        Step::Frame(0, 1),
+        ask(keyfree(at(0))),
+        Step::Record(BLOCKED + (3 << 7)),
+        ask(cachewb()),
     ])
 }
 
@@ -468,9 +545,11 @@ fn lamp() -> Vec<Step> {
         ask(create(at(0), Key(32))),
         ask(create(at(1), Key(33))),
         ask(flushdone(at(1))),
+        ask(cachewb()),
         ask(keyfree(at(1))),
         ask(reclaim(at(1))),
         ask(flushdone(at(0))),
+        ask(cachewb()),
         ask(keyfree(at(0))),
         ask(reclaim(at(0))),
     ])
@@ -507,6 +586,9 @@ fn sequences() -> Vec<(&'static str, Vec<Step>)> {
         ("augments", augments()),
         ("teardown", teardown()),
         ("keys", keys()),
+        ("two", two()),
+        ("written", written()),
+        ("sweeps", sweeps()),
         ("tables", tables()),
         ("limits", limits()),
         ("ranges", ranges()),

@@ -113,6 +113,9 @@ static const reefnettle_request life[] = {
     {.call = REEFNETTLE_CALL_TRACK, TDR},
     {.call = REEFNETTLE_CALL_SEPTREMOVE, TDR, .level = {1}},
     {.call = REEFNETTLE_CALL_FLUSHDONE, TDR},
+#if REEFNETTLE_VERSION >= 3 /* bench/cost may bring an earlier header, which lacks the call and needs none */
+    {.call = REEFNETTLE_CALL_CACHEWB},
+#endif
     {.call = REEFNETTLE_CALL_KEYFREE, TDR},
     {.call = REEFNETTLE_CALL_RECLAIM, .frame = HPA(6)},
 };

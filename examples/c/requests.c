@@ -67,6 +67,7 @@ int main(void)
     reefnettle_reclaim(&model, frame);
     reefnettle_readpage(&model, frame);
     reefnettle_readentry(&model, domain, gpa, level);
+    reefnettle_cachewb(&model);
     show_fit(REEFNETTLE_VERSION);
     show_fit(REEFNETTLE_VERSION + 1);
     return 0;

@@ -227,7 +227,7 @@ static reefnettle_hpa hpa_of(const reefnettle_model *model, uint64_t number)
     return reefnettle_hpa_of_frame(model, frame);
 }
 
-/* Lesson 3, lines 1 to 12 and 14: control pages in frames 1 to 4, tables in frames 5 to 7, pages in frames 8 and 9, and the
+/* Lesson 3, lines 1 to 12 and 17: control pages in frames 1 to 4, tables in frames 5 to 7, pages in frames 8 and 9, and the
  * entry of frame 7 is blocked. */
 static void ask_lesson(const reefnettle_model *model)
 {
@@ -318,6 +318,30 @@ static void try_refused_words(void)
     expect(reefnettle_readpage(&model, model.base).number == REEFNETTLE_ANSWER_ACCEPTED, "all put back", 0);
 }
 
+static uint64_t lifecycle_of_record_0(void)
+{
+    return reefnettle_unpack_record(packed.domains).lifecycle;
+}
+
+/* A lifecycle with a name is in range and another isn't; cachewb writes a blocked one back and leaves the others. */
+static void try_lifecycles(void)
+{
+    const reefnettle_model model = lend(&packed);
+    reefnettle_record_fields fields = running();
+    for (fields.lifecycle = 0; fields.lifecycle <= REEFNETTLE_LIFECYCLE_WRITTEN_BACK; fields.lifecycle++) {
+        const bool blocked = fields.lifecycle == REEFNETTLE_LIFECYCLE_BLOCKED;
+        const uint64_t left = blocked ? (uint64_t)REEFNETTLE_LIFECYCLE_WRITTEN_BACK : fields.lifecycle;
+        reefnettle_pack_record(fields, packed.domains);
+        expect(reefnettle_cachewb(&model).number == REEFNETTLE_ANSWER_ACCEPTED, "cachewb", fields.lifecycle);
+        expect(lifecycle_of_record_0() == left, "the lifecycle that cachewb leaves", fields.lifecycle);
+    }
+    for (; fields.lifecycle < 1 << 3; fields.lifecycle++) {
+        reefnettle_pack_record(fields, packed.domains);
+        expect_out_of_range(&model, "a lifecycle without a name");
+    }
+    reefnettle_pack_record(running(), packed.domains);
+}
+
 int main(void)
 {
     expect(reefnettle_fits(), "the version of the archive", reefnettle_version());
@@ -331,6 +355,7 @@ int main(void)
     try_frame_of_hpa();
     try_filled_tables();
     try_refused_words();
+    try_lifecycles();
     if (failures == 0)
         puts("lent words: all as expected");
     return failures == 0 ? 0 : 1;

@@ -1,4 +1,4 @@
-//! The eighteen host calls.
+//! The nineteen host calls.
 //!
 //! Each one judges everything before it changes anything, in the paper's
 //! order: 1, D's 2, the record's 14, 3, 4, 5, F's 2, 10, 6, 7, 8, 9, 11, 12,
@@ -51,7 +51,9 @@ pub enum Call {
     SeptRemove { domain: u64, gpa: u64, level: u64 },
     /// Blocks the domain for good.
     FlushDone { domain: u64 },
-    /// Frees the key of a blocked domain.
+    /// Writes the caches back, for every blocked domain.
+    CacheWb,
+    /// Frees the key of a domain that is blocked and written back.
     KeyFree { domain: u64 },
     /// Takes a frame back from a domain in teardown.
     Reclaim { page: u64 },
@@ -130,6 +132,7 @@ impl Machine {
             Call::PageRemove { domain, gpa } => self.pageremove(domain, gpa)?,
             Call::SeptRemove { domain, gpa, level } => self.septremove(domain, gpa, level)?,
             Call::FlushDone { domain } => self.flushdone(domain)?,
+            Call::CacheWb => self.cachewb(),
             Call::KeyFree { domain } => self.keyfree(domain)?,
             Call::Reclaim { page } => self.reclaim(page)?,
             Call::ReadPage { page } => return self.readpage(page),
@@ -369,11 +372,21 @@ impl Machine {
         }
     }
 
+    /// Sweeps every record in use, whether or not a TDR names it. It names no
+    /// domain, so nothing is left to refuse it but 13.
+    fn cachewb(&mut self) {
+        for record in self.records.iter_mut().filter(|record| record.in_use) {
+            if record.lifecycle == lifecycle::BLOCKED {
+                record.lifecycle = lifecycle::WRITTEN_BACK;
+            }
+        }
+    }
+
     fn keyfree(&mut self, domain: u64) -> Judged<()> {
         let tdr = self.frame_number(domain)?;
         let domain = self.domain(tdr)?;
         let record = self.record_mut(domain);
-        if record.lifecycle != lifecycle::BLOCKED {
+        if record.lifecycle != lifecycle::WRITTEN_BACK {
             return Err(Refusal::Lifecycle);
         }
 

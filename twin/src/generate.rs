@@ -281,7 +281,6 @@ impl Generator {
         let domain = self.machine.hpa(tdr);
         let record = self.record(tdr);
         let (stage, op, pages) = (record.lifecycle, record.op_state, record.page_count);
-        let children = record.child_count;
         let early_end = match self.kind {
             Kind::Churn => 60,
             _ => 4,
@@ -301,14 +300,33 @@ impl Generator {
             }
             lifecycle::KEYS_CONFIGURED if op == op_state::UNINITIALIZED => Call::Init { domain },
             lifecycle::KEYS_CONFIGURED => self.step_live(tdr),
-            lifecycle::BLOCKED => Call::KeyFree { domain },
-            _ if children == 0 || self.rng.chance(10) => Call::Reclaim { page: domain },
-            _ => {
-                let owned = self.frames_owned_by(tdr);
-                Call::Reclaim {
-                    page: self.machine.hpa(owned[self.rng.index(owned.len())]),
-                }
-            }
+            lifecycle::TEARDOWN => self.step_reclaim(tdr),
+            _ => self.step_to_free_key(tdr),
+        }
+    }
+
+    /// The call that a blocked domain waits for. Now and then it is the one
+    /// after it, too soon.
+    fn step_to_free_key(&mut self, tdr: usize) -> Call {
+        let written_back = self.record(tdr).lifecycle == lifecycle::WRITTEN_BACK;
+        match (written_back, self.rng.chance(200)) {
+            (false, false) => Call::CacheWb,
+            (true, true) => self.step_reclaim(tdr),
+            _ => Call::KeyFree {
+                domain: self.machine.hpa(tdr),
+            },
+        }
+    }
+
+    /// Takes a frame of the domain back, the TDR when it has no others.
+    fn step_reclaim(&mut self, tdr: usize) -> Call {
+        let too_soon = self.rng.chance(10);
+        let page = match self.rng.pick(&self.frames_owned_by(tdr)) {
+            Some(page) if !too_soon => page,
+            _ => tdr,
+        };
+        Call::Reclaim {
+            page: self.machine.hpa(page),
         }
     }
 
@@ -320,7 +338,7 @@ impl Generator {
             Kind::Deep => [110, 420, 4, 120, 50, 90, 90, 60, 40, 20, 1],
             Kind::Full if self.machine.used < self.goal => [20, 900, 2, 8, 4, 40, 0, 4, 12, 8, 0],
             Kind::Full => [2, 2, 2, 10, 4, 8, 900, 30, 12, 8, 1],
-            Kind::Churn => [150, 250, 60, 90, 50, 40, 60, 60, 30, 30, 60],
+            Kind::Churn => [150, 250, 60, 90, 50, 40, 60, 60, 30, 30, 75],
             Kind::Noise => [150, 300, 30, 120, 60, 60, 90, 90, 40, 40, 15],
         }
     }
@@ -510,7 +528,7 @@ impl Generator {
         let upper_level = level.max(1);
         let upper_gpa = align(gpa, upper_level);
         let page_gpa = align(gpa, 0);
-        let call = match self.rng.below(18) {
+        let call = match self.rng.below(19) {
             0 => Call::Create {
                 page,
                 key: KEY_LOWEST + self.rng.below(KEY_HIGHEST - KEY_LOWEST + 1),
@@ -551,6 +569,7 @@ impl Generator {
             14 => Call::KeyFree { domain },
             15 => Call::Reclaim { page },
             16 => Call::ReadPage { page },
+            17 => Call::CacheWb,
             _ => Call::ReadEntry { domain, gpa, level },
         };
         // Where they would end a phase for good, these two are kept rare.

@@ -65,7 +65,7 @@ impl Machine {
 
     fn record_in_range(&self, record: &Record) -> bool {
         (KEY_LOWEST..=KEY_HIGHEST).contains(&record.key)
-            && record.lifecycle <= lifecycle::TEARDOWN
+            && record.lifecycle <= lifecycle::WRITTEN_BACK
             && record.op_state <= op_state::RUNNABLE
             && self.control_pages_in_range(record)
             && record.child_count <= self.frames.len() as u64

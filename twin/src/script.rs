@@ -1,5 +1,5 @@
 //! Script lines: a name, then for each operand its unit and its number, parted
-//! by single tabs.
+//! by single tabs. A call without operands is its name alone.
 
 use crate::calls::Call;
 
@@ -108,6 +108,7 @@ pub fn parse(line: &[u8]) -> Option<Call> {
         b"flushdone" => Call::FlushDone {
             domain: operands.hpa()?,
         },
+        b"cachewb" => Call::CacheWb,
         b"keyfree" => Call::KeyFree {
             domain: operands.hpa()?,
         },
@@ -230,6 +231,7 @@ impl Call {
                 level: l,
             } => ("septremove", vec![hpa(domain), gpa(g), level(l)]),
             Call::FlushDone { domain } => ("flushdone", vec![hpa(domain)]),
+            Call::CacheWb => ("cachewb", vec![]),
             Call::KeyFree { domain } => ("keyfree", vec![hpa(domain)]),
             Call::Reclaim { page } => ("reclaim", vec![hpa(page)]),
             Call::ReadPage { page } => ("readpage", vec![hpa(page)]),

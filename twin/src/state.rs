@@ -33,10 +33,12 @@ pub mod lifecycle {
     pub const HKID_ASSIGNED: u64 = 0;
     /// The key is configured.
     pub const KEYS_CONFIGURED: u64 = 1;
-    /// Flushed; the key is still held.
+    /// Flushed, and not yet written back; the key is still held.
     pub const BLOCKED: u64 = 2;
     /// The key is free again.
     pub const TEARDOWN: u64 = 3;
+    /// Blocked and written back; the key is still held.
+    pub const WRITTEN_BACK: u64 = 4;
 }
 
 /// Codes of [`Record::op_state`].

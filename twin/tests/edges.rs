@@ -263,6 +263,8 @@ fn a_key_is_free_from_teardown_on() {
     refuse(&mut machine, again, 10);
     accept(&mut machine, Call::FlushDone { domain: D });
     refuse(&mut machine, again, 10);
+    accept(&mut machine, Call::CacheWb);
+    refuse(&mut machine, again, 10);
     accept(&mut machine, Call::KeyFree { domain: D });
     assert_eq!(machine.records[0].key, 32);
     accept(&mut machine, again);
@@ -458,7 +460,8 @@ fn lifecycle_of_a_domain() {
     let stages = [
         (lifecycle::HKID_ASSIGNED, [0, 0, 3, 3]),
         (lifecycle::KEYS_CONFIGURED, [3, 0, 3, 3]),
-        (lifecycle::BLOCKED, [3, 3, 0, 3]),
+        (lifecycle::BLOCKED, [3, 3, 3, 3]),
+        (lifecycle::WRITTEN_BACK, [3, 3, 0, 3]),
         (lifecycle::TEARDOWN, [3, 3, 3, 0]),
     ];
     for (stage, answers) in stages {

@@ -3,8 +3,8 @@
 use std::collections::BTreeSet;
 
 use reefnettle_twin::{
-    entry_state, frame_type, generate, generate_on, lifecycle, parse, replay, replay_machine,
-    Entry, Kind, Machine, Readout, Record, REPLAY_BASE, REPLAY_CLEAR, REPLAY_RAISE,
+    entry_state, frame_type, generate, generate_on, lifecycle, parse, replay, replay_machine, Call,
+    Entry, Kind, Machine, Readout, Record, FRAME_BYTES, REPLAY_BASE, REPLAY_CLEAR, REPLAY_RAISE,
 };
 
 fn lines(script: &[u8]) -> Vec<&[u8]> {
@@ -199,6 +199,68 @@ fn every_answer_occurs_in_every_kind() {
         for (answer, &count) in counts.iter().enumerate() {
             let expected = answer <= 11 || answer == 15;
             assert_eq!(count > 0, expected, "{} {answer}", kind.name());
+        }
+    }
+}
+
+/// How often cachewb and keyfree met what makes a difference to them.
+#[derive(Debug, Default)]
+struct WriteBacks {
+    /// Blocked domains that a cachewb met: none, one, more.
+    swept: [u64; 3],
+    freed: u64,
+    /// Keys of blocked domains asked for.
+    too_soon: u64,
+    /// The same while another domain is written back.
+    blocked_after: u64,
+}
+
+impl WriteBacks {
+    /// Notes a call on the machine before it, and its answer.
+    fn note(&mut self, machine: &Machine, call: Call, answer: u8) {
+        let in_stage = |stage| {
+            let records = machine.records.iter();
+            let in_stage = records.filter(|r| r.in_use && r.lifecycle == stage);
+            in_stage.count()
+        };
+        match (call, answer) {
+            (Call::CacheWb, _) => self.swept[in_stage(lifecycle::BLOCKED).min(2)] += 1,
+            (Call::KeyFree { .. }, 0) => self.freed += 1,
+            (Call::KeyFree { domain }, 3) => {
+                let tdr = (domain - REPLAY_BASE) / FRAME_BYTES;
+                let record = machine.frames[tdr as usize].number as usize;
+                if machine.records[record].lifecycle == lifecycle::BLOCKED {
+                    self.too_soon += 1;
+                    self.blocked_after += u64::from(in_stage(lifecycle::WRITTEN_BACK) > 0);
+                }
+            }
+            _ => {}
+        }
+    }
+}
+
+#[test]
+fn every_kind_writes_back_and_frees_keys_too_soon() {
+    for kind in Kind::ALL {
+        let mut met = WriteBacks::default();
+        for seed in 1..=3 {
+            let script = generate(seed, 10_000, kind);
+            let mut machine = replay_machine();
+            for call in lines(&script).into_iter().filter_map(parse) {
+                let noted = matches!(call, Call::CacheWb | Call::KeyFree { .. });
+                let before = noted.then(|| machine.clone());
+                let answer = machine.call_unchecked(call).number;
+                if let Some(before) = before {
+                    met.note(&before, call, answer);
+                }
+            }
+        }
+        let [none, one, more] = met.swept;
+        let once = [none, one, met.freed, met.too_soon].map(|count| count > 0);
+        assert_eq!(once, [true; 4], "{} {met:?}", kind.name());
+        // Where many domains end, more than one does so at a time.
+        if kind == Kind::Churn {
+            assert!(more > 0 && met.blocked_after > 0, "{met:?}");
         }
     }
 }

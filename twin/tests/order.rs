@@ -225,6 +225,20 @@ fn calls_on_a_domain() {
             &DOMAIN_RUNGS[..4],
         );
     }
+    // The domain is blocked, and then written back.
+    let back: Rung = (|m| m.records[0].lifecycle = lifecycle::WRITTEN_BACK, 0);
+    climb(
+        spoiled,
+        Call::KeyFree { domain: D },
+        &[&DOMAIN_RUNGS[..4], &[back]].concat(),
+    );
+}
+
+#[test]
+fn cachewb() {
+    let spoiled = with(&live(), spoil_domain);
+    // No frame and no record is asked for, so that 13 alone is left.
+    climb(spoiled, Call::CacheWb, &[(nothing, 13), (mend_gauge, 0)]);
 }
 
 #[test]
@@ -490,6 +504,7 @@ fn reclaim_of_a_child() {
             (|m| m.frames[10].owner = 0, 14),
             (mend_record, 3),
             (|m| m.records[0].lifecycle = lifecycle::BLOCKED, 3),
+            (|m| m.records[0].lifecycle = lifecycle::WRITTEN_BACK, 3),
             (|m| m.records[0].lifecycle = lifecycle::TEARDOWN, 14),
             (|m| m.tables[3].in_use = true, 14),
             (|m| m.records[0].child_count = 1, 0),
@@ -509,6 +524,7 @@ fn reclaim_of_a_tdr() {
         &[
             (nothing, 14),
             (mend_record, 3),
+            (|m| m.records[0].lifecycle = lifecycle::WRITTEN_BACK, 3),
             (|m| m.records[0].lifecycle = lifecycle::TEARDOWN, 9),
             (|m| m.records[0].child_count = 0, 0),
         ],

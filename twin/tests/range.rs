@@ -21,6 +21,7 @@ fn judge(name: &str, in_range: bool, change: impl FnOnce(&mut Machine)) {
             page: hpa(1000),
             key: 99,
         },
+        Call::CacheWb,
     ];
     for call in calls {
         let mut machine = machine.clone();
@@ -171,7 +172,7 @@ fn frames() {
 fn records() {
     for number in [0, 1] {
         ends("key", 32, 95, |m| &mut m.records[number].key);
-        ends("lifecycle", 0, 3, |m| &mut m.records[number].lifecycle);
+        ends("lifecycle", 0, 4, |m| &mut m.records[number].lifecycle);
         ends("op state", 0, 2, |m| &mut m.records[number].op_state);
         ends("child count", 0, 1024, |m| {
             &mut m.records[number].child_count
@@ -198,15 +199,21 @@ fn records() {
         }
     }
     judge("repeated pages", true, |m| m.records[0].pages = [7; 4]);
-    // A record in teardown is looked into.
-    judge("teardown", false, |m| {
-        m.records[0].lifecycle = lifecycle::TEARDOWN;
-        m.records[0].key = 31;
-    });
-    judge("teardown", true, |m| {
-        m.records[0].lifecycle = lifecycle::TEARDOWN;
-        m.records[0].op_state = op_state::RUNNABLE;
-    });
+    // A record of a domain at its end is looked into.
+    for stage in [
+        lifecycle::BLOCKED,
+        lifecycle::TEARDOWN,
+        lifecycle::WRITTEN_BACK,
+    ] {
+        judge(&format!("lifecycle {stage}"), false, |m| {
+            m.records[0].lifecycle = stage;
+            m.records[0].key = 31;
+        });
+        judge(&format!("lifecycle {stage}"), true, |m| {
+            m.records[0].lifecycle = stage;
+            m.records[0].op_state = op_state::RUNNABLE;
+        });
+    }
 }
 
 #[test]

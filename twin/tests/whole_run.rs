@@ -94,6 +94,26 @@ used 6 lamp 0
 }
 
 #[test]
+fn a_key_is_freed_after_the_write_back() {
+    let script = "\
+create hpa 1073741824 key 32
+cachewb
+keyfree hpa 1073741824
+flushdone hpa 1073741824
+keyfree hpa 1073741824
+cachewb
+create hpa 1073745920 key 32
+keyfree hpa 1073741824
+create hpa 1073745920 key 32
+cachewb
+";
+    let script = script.replace(' ', "\t");
+    assert_eq!(answers(&script), [0, 0, 3, 0, 3, 0, 10, 0, 0, 0]);
+    // The name alone may be the last of the script, without its LF.
+    assert_eq!(run(script.trim_end()), run(&script));
+}
+
+#[test]
 fn an_empty_script() {
     assert_eq!(run(""), "bytes\t4096\tframes\t1024\nused\t0\tlamp\t0\n");
 }
@@ -161,6 +181,7 @@ fn every_name_is_read() {
             },
         ),
         ("flushdone\thpa\t1", Call::FlushDone { domain: 1 }),
+        ("cachewb", Call::CacheWb),
         ("keyfree\thpa\t1", Call::KeyFree { domain: 1 }),
         ("reclaim\thpa\t1", Call::Reclaim { page: 1 }),
         ("readpage\thpa\t1", Call::ReadPage { page: 1 }),
@@ -181,7 +202,7 @@ fn every_name_is_read() {
 
 #[test]
 fn lines_that_are_unreadable() {
-    let lines: [&[u8]; 44] = [
+    let lines: [&[u8]; 55] = [
         b"",
         b"\t",
         b" ",
@@ -226,6 +247,17 @@ fn lines_that_are_unreadable() {
         b"create\tkey\t32\thpa\t1073741824",
         b"reset",
         b"set-marks",
+        b"cachewb\t",
+        b"cachewb ",
+        b"cachewb\r",
+        b"cachewb\0",
+        b"cachewb\t0",
+        b"cachewb\thpa\t1073741824",
+        b"\tcachewb",
+        b" cachewb",
+        b"cachew",
+        b"cachewbs",
+        b"CACHEWB",
     ];
     for line in lines {
         assert_eq!(parse(line), None, "{line:?}");

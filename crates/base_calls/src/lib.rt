@@ -1,4 +1,4 @@
-// The host calls of document 01 by value, and what the module answers to them.
+// The host calls of documents 01 and 02 by value, and what the module answers to them.
 ghost use mathlib.Core.Path.{_≡_};
 ghost use Rattle.base_calls.specs.Answers.{valuesOf};
 use base_units::address::Gpa;
@@ -78,6 +78,7 @@ pub enum Call {
         gpa: Gpa,
         level: usize,
     },
+    CacheWb,
 }
 
 // What a host asks: one of its calls, the setting of the gauge's marks (raise, clear), a fresh start, or nothing that has a name.

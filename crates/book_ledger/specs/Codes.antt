@@ -17,7 +17,7 @@ EPT = 3
 abbrev pub REG : ℕ
 REG = 4
 
--- "lifecycle (HKID assigned, keys configured, blocked, teardown)"
+-- "lifecycle (HKID assigned, keys configured, blocked, teardown)"; request 5: "blocked and written back", behind the others, which keep their codes
 abbrev pub ASSIGNED : ℕ
 ASSIGNED = 0
 
@@ -29,6 +29,9 @@ BLOCKED-LIFE = 2
 
 abbrev pub TEARDOWN : ℕ
 TEARDOWN = 3
+
+abbrev pub WRITTEN-BACK : ℕ
+WRITTEN-BACK = 4
 
 -- "op state (uninitialized, initialized, runnable)"
 abbrev pub UNINITIALIZED : ℕ

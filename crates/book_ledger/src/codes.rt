@@ -1,4 +1,4 @@
-// Document 01, "What is written down": the codes, in the order in which the paper lists them.
+// Document 01, "What is written down": the codes, in the order in which the paper lists them. Blocked and written back is request 5's.
 pub const NDA: u64 = 0;
 
 pub const TDR: u64 = 1;
@@ -16,6 +16,8 @@ pub const CONFIGURED: u64 = 1;
 pub const BLOCKED_LIFE: u64 = 2;
 
 pub const TEARDOWN: u64 = 3;
+
+pub const WRITTEN_BACK: u64 = 4;
 
 pub const UNINITIALIZED: u64 = 0;
 

@@ -4,7 +4,7 @@
 use Rattle.base_rules.specs.Basics.{ℕ, _+_, Bool, false, List, length, eqb, ltb, leb, choose, implies, need, given, allFrom}
 use Rattle.base_units.specs.{Limits.tableEntries, Limits.controlPages, Limits.epochMost, Limits.keyOk, Limits.epochOk, declared.address.Hpa.Hpa}
 use Rattle.book_stock.specs.Bits.{inUse, spareClear}
-use Rattle.book_ledger.specs.Codes.{NDA, TDR, TDCX, EPT, REG, TEARDOWN, RUNNABLE, FREE, PENDING-BLOCKED}
+use Rattle.book_ledger.specs.Codes.{NDA, TDR, TDCX, EPT, REG, WRITTEN-BACK, RUNNABLE, FREE, PENDING-BLOCKED}
 use Rattle.book_ledger.specs.Tables.{Tables, frameAt, domainAt, pageAt, entryAt}
 use Rattle.book_ledger.specs.Sizes.{bitsOf, bitOf, rootOf, sizesOf, sizesOk}
 use Rattle.book_ledger.specs.declared.{sizes.Sizes.Sizes, words.Domain.Domain}
@@ -59,7 +59,7 @@ pagesOk frames listed ds r = allFrom (pageOk frames listed ds r) 0 controlPages
 unfoldable pub domainOk : ℕ → Domain → Bool
 domainOk frames d =
     need (keyOk (d .key)) false (
-    need (leb (d .life) TEARDOWN) false (
+    need (leb (d .life) WRITTEN-BACK) false (
     need (leb (d .op) RUNNABLE) false (
     need (leb (d .listed) controlPages) false (
     need (leb (d .children) frames) false (

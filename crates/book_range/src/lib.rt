@@ -17,7 +17,7 @@ use book_ledger::codes::REG;
 use book_ledger::codes::RUNNABLE;
 use book_ledger::codes::TDCX;
 use book_ledger::codes::TDR;
-use book_ledger::codes::TEARDOWN;
+use book_ledger::codes::WRITTEN_BACK;
 use book_ledger::sizes;
 use book_ledger::sizes::Sizes;
 use book_ledger::tables;
@@ -152,7 +152,7 @@ fn domain_ok(frames: usize, d: Domain) -> bool
     if !limits::key_ok(d.key) {
         return false;
     }
-    if d.life > TEARDOWN {
+    if d.life > WRITTEN_BACK {
         return false;
     }
     if d.op > RUNNABLE {

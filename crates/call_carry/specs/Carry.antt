@@ -1,11 +1,12 @@
--- What a plan leaves of the lent tables: an answer leaves them as they are, and an edit writes what it says.
-use Rattle.base_rules.specs.Basics.{ℕ, true, false, List}
+-- What a plan leaves of the lent tables: an answer leaves them as they are, an edit writes what it says, and a sweep goes over every record.
+use Rattle.base_rules.specs.Basics.{ℕ, zero, suc, _+_, _/_, true, false, List, length, eqb, choose, given}
 use Rattle.base_units.specs.Limits.{recordWords, tableEntries}
-use Rattle.book_stock.specs.{Bits.setUse, Wipe.wipedAt}
-use Rattle.book_ledger.specs.Tables.{Tables, lent, setFrame, setPage, setDomain, setEntry}
+use Rattle.book_stock.specs.{Bits.inUse, Bits.setUse, Wipe.wipedAt}
+use Rattle.book_ledger.specs.{Sizes.bitOf, Tables.Tables, Tables.lent, Tables.setFrame, Tables.setPage, Tables.domainAt, Tables.setDomain, Tables.setEntry}
 use Rattle.base_calls.specs.declared.Answer.{Answer, the-variants.Done}
 use Rattle.call_plan.specs.declared.edit.{FrameEdit.FrameEdit, PageEdit.PageEdit, DomainEdit.DomainEdit, StockEdit.StockEdit, EntryEdit.EntryEdit, Edit.Edit}
-use Rattle.call_plan.specs.declared.edit.{Plan.Plan, Plan.the-variants.Say, Plan.the-variants.Do}
+use Rattle.call_plan.specs.declared.edit.{Sweep.Sweep, Plan.Plan, Plan.the-variants.Say, Plan.the-variants.Do, Plan.the-variants.Each}
+use Rattle.call_plan.specs.Edits.{withLife}
 
 unfoldable pub afterFrame : FrameEdit → List ℕ → List ℕ
 afterFrame (FrameEdit.Keep) fs = fs
@@ -50,6 +51,25 @@ applied e t =
     (afterUse (e .stock) (t .stock))
     (afterEntry (e .entry) (afterBlock (e .stock) (t .entries)))
 
+-- ---- a sweep, over k records from r on: each that is in use, whether or not a TDR names it. `entries` is how many entries are lent
+unfoldable pub sweptAt : Sweep → List ℕ → ℕ → ℕ → List ℕ → List ℕ
+sweptAt w st entries r ds =
+    given (bitOf (length ds) entries r) λ bit.
+    choose (inUse st bit) (
+    given (domainAt ds r) λ d.
+    choose (eqb (d .life) (w .from)) (
+    given (withLife d (w .to)) (setDomain ds r)) ds) ds
+
+unfoldable pub sweptFrom : Sweep → List ℕ → ℕ → ℕ → ℕ → List ℕ → List ℕ
+sweptFrom w st entries r zero ds = ds
+sweptFrom w st entries r (suc k) ds = sweptFrom w st entries (r + 1) k (sweptAt w st entries r ds)
+
+unfoldable pub swept : Sweep → List ℕ → ℕ → List ℕ → List ℕ
+swept w st entries ds = sweptFrom w st entries 0 (length ds / recordWords) ds
+
+unfoldable pub sweptTables : Sweep → Tables → Tables
+sweptTables w t = lent (t .frames) (swept w (t .stock) (length (t .entries)) (t .domains)) (t .stock) (t .entries)
+
 -- an answer, with the tables after it
 pub record Carried : Type 0 where
   pub answer : Answer
@@ -61,3 +81,4 @@ carriedOut a t = record { answer = a; tables = t }
 unfoldable pub carried : Tables → Plan → Carried
 carried t (Say a) = carriedOut a t
 carried t (Do e) = carriedOut Done (applied e t)
+carried t (Each w) = carriedOut Done (sweptTables w t)

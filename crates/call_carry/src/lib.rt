@@ -1,17 +1,23 @@
 // A plan carried out: the only code that writes the lent tables of a call.
 ghost use mathlib.Core.Path.{_≡_};
 ghost use Rattle.book_ledger.specs.Tables.{lent};
-ghost use Rattle.call_carry.specs.Carry.{afterFrame, afterPage, afterDomain, afterUse, afterRecord, afterBlock, afterEntry, carriedOut, carried};
+ghost use Rattle.call_carry.specs.Carry.{afterFrame, afterPage, afterDomain, afterUse, afterRecord, afterBlock, afterEntry, applied, sweptAt, swept};
+ghost use Rattle.call_carry.specs.Carry.{carriedOut, carried};
 use base_calls::Answer;
+use base_units::limits::RECORD_WORDS;
+use book_ledger::sizes;
 use book_ledger::tables;
 use book_stock::bits;
 use book_stock::wipe;
+use call_plan::change;
 use call_plan::edit::DomainEdit;
+use call_plan::edit::Edit;
 use call_plan::edit::EntryEdit;
 use call_plan::edit::FrameEdit;
 use call_plan::edit::PageEdit;
 use call_plan::edit::Plan;
 use call_plan::edit::StockEdit;
+use call_plan::edit::Sweep;
 
 fn apply_frame(frames: &mut [u64], e: FrameEdit)
     ensures { λ _. ⌜ now (frames .exit) ≡ afterFrame e (now (frames .entry)) ⌝ }
@@ -80,6 +86,47 @@ fn apply_block(entries: &mut [u32], e: StockEdit)
     }
 }
 
+// Of a sweep, one record; one that isn't in use is left as it is.
+fn sweep_record(domains: &mut [u64], stock: &[u64], entries: usize, w: Sweep, rec: usize)
+    ensures { λ _. ⌜ now (domains .exit) ≡ sweptAt w (now (stock .entry)) entries rec (now (domains .entry)) ⌝ }
+{
+    if bits::in_use(stock, sizes::bit_of(domains.len(), entries, rec)) {
+        let d = tables::domain_at(domains, rec);
+        if d.life == w.from {
+            tables::put_domain(domains, rec, change::with_life(d, w.to));
+        }
+    }
+}
+
+fn sweep_records(domains: &mut [u64], stock: &[u64], entries: usize, w: Sweep)
+    ensures { λ _. ⌜ now (domains .exit) ≡ swept w (now (stock .entry)) entries (now (domains .entry)) ⌝ }
+{
+    let records = domains.len() / RECORD_WORDS;
+    let mut rec = 0;
+    while rec < records {
+        sweep_record(domains, stock, entries, w, rec);
+        rec += 1;
+    }
+}
+
+fn apply(frames: &mut [u64], domains: &mut [u64], stock: &mut [u64], entries: &mut [u32], e: Edit)
+    ensures { λ _. ⌜ lent (now (frames .exit)) (now (domains .exit)) (now (stock .exit)) (now (entries .exit))
+        ≡ applied e (lent (now (frames .entry)) (now (domains .entry)) (now (stock .entry)) (now (entries .entry))) ⌝ }
+{
+    let frame = e.frame;
+    let page = e.page;
+    let domain = e.domain;
+    let block = e.stock;
+    let entry = e.entry;
+    apply_frame(frames, frame);
+    apply_use(stock, block);
+    apply_record(domains, block);
+    apply_domain(domains, domain);
+    apply_page(domains, page);
+    apply_block(entries, block);
+    apply_entry(entries, entry);
+}
+
 pub fn carry(
     frames: &mut [u64],
     domains: &mut [u64],
@@ -91,21 +138,9 @@ pub fn carry(
         ≡ carried (lent (now (frames .entry)) (now (domains .entry)) (now (stock .entry)) (now (entries .entry))) p ⌝ }
 {
     match p {
-        Plan::Say(a) => a,
-        Plan::Do(e) => {
-            let frame = e.frame;
-            let page = e.page;
-            let domain = e.domain;
-            let block = e.stock;
-            let entry = e.entry;
-            apply_frame(frames, frame);
-            apply_use(stock, block);
-            apply_record(domains, block);
-            apply_domain(domains, domain);
-            apply_page(domains, page);
-            apply_block(entries, block);
-            apply_entry(entries, entry);
-            Answer::Done
-        }
+        Plan::Say(a) => return a,
+        Plan::Do(e) => apply(frames, domains, stock, entries, e),
+        Plan::Each(w) => sweep_records(domains, stock, entries.len(), w),
     }
+    Answer::Done
 }

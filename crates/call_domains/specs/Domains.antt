@@ -3,13 +3,14 @@ use Rattle.base_rules.specs.Basics.{ℕ, _+_, _-_, Bool, List, length, eqb, ltb
 use Rattle.base_units.specs.Limits.{between, controlPages, epochLeast, epochMost, keyOk}
 use Rattle.base_units.specs.declared.address.{Hpa.Hpa, Pfn.Pfn}
 use Rattle.book_stock.specs.Bits.{inUse, lowestUnused, onLowest}
-use Rattle.book_ledger.specs.Codes.{ASSIGNED, CONFIGURED, BLOCKED-LIFE, TEARDOWN, UNINITIALIZED, INITIALIZED, RUNNABLE}
+use Rattle.book_ledger.specs.Codes.{ASSIGNED, CONFIGURED, BLOCKED-LIFE, TEARDOWN, WRITTEN-BACK, UNINITIALIZED, INITIALIZED, RUNNABLE}
 use Rattle.book_ledger.specs.{Sizes.tablesOf, Sizes.bitsOf, Tables.Tables, Tables.domainAt, declared.words.Domain.Domain}
 use Rattle.call_plan.specs.Edits.{newTdr, newTdcx, withLife, withOp, withEpoch}
 use Rattle.call_plan.specs.Lookup.{onParties, isNda, rootIn, partiesFor}
 use Rattle.call_plan.specs.Changes.{refuse, become, gain, onFrame, operandOf, onDomain, onBuilt}
 use Rattle.call_plan.specs.declared.{lookup.Subject.Subject, edit.FrameEdit.FrameEdit, edit.PageEdit.PageEdit, edit.DomainEdit.DomainEdit}
 use Rattle.call_plan.specs.declared.{edit.StockEdit.StockEdit, edit.EntryEdit.EntryEdit, edit.Plan.Plan, edit.Plan.the-variants.Say, edit.Plan.the-variants.Do}
+use Rattle.call_plan.specs.declared.edit.Plan.the-variants.{Each}
 use Rattle.base_calls.specs.Operands.{D, F·alone, F·addcx, KEY, NONE}
 
 -- the lifecycle from `least` to `most` (3); its new one
@@ -27,9 +28,13 @@ keyconfigPlan base t d = lifePlan base t d ASSIGNED ASSIGNED CONFIGURED
 abbrev pub flushdonePlan : Hpa → Tables → Hpa → Plan
 flushdonePlan base t d = lifePlan base t d ASSIGNED CONFIGURED BLOCKED-LIFE
 
--- keyfree: blocked; teardown; key free
+-- cachewb: "every domain in blocked becomes blocked and written back" (request 5). It has no operands, and refuses nothing
+abbrev pub cachewbPlan : Plan
+cachewbPlan = Each (record { from = BLOCKED-LIFE; to = WRITTEN-BACK })
+
+-- keyfree: blocked and written back ("keyfree then needs that, and answers 3 without it"); teardown; key free
 abbrev pub keyfreePlan : Hpa → Tables → Hpa → Plan
-keyfreePlan base t d = lifePlan base t d BLOCKED-LIFE BLOCKED-LIFE TEARDOWN
+keyfreePlan base t d = lifePlan base t d WRITTEN-BACK WRITTEN-BACK TEARDOWN
 
 -- keys configured (3), 4 control pages (4), the op state `from` (5); its new one
 unfoldable pub opPlan : Hpa → Tables → Hpa → ℕ → ℕ → Plan

@@ -1,7 +1,7 @@
-// The calls on a domain's record: create, keyconfig, addcx, init, finalize, track, flushdone, keyfree.
+// The calls on domains' records: create, keyconfig, addcx, init, finalize, track, flushdone, cachewb, keyfree.
 ghost use mathlib.Core.Path.{_≡_};
 ghost use Rattle.book_ledger.specs.Tables.{lent};
-ghost use Rattle.call_domains.specs.Domains.{lifePlan, opPlan, trackPlan, enlistAt, addcxPlan, otherKey, keyUnused, newRecord, createAt, createPlan};
+ghost use Rattle.call_domains.specs.Domains.{lifePlan, cachewbPlan, opPlan, trackPlan, enlistAt, addcxPlan, otherKey, keyUnused, newRecord, createAt, createPlan};
 use base_calls::Answer;
 use base_units::address::Hpa;
 use base_units::address::Pfn;
@@ -10,6 +10,7 @@ use base_units::limits::CONTROL_PAGES;
 use base_units::limits::EPOCH_LEAST;
 use base_units::limits::EPOCH_MOST;
 use book_ledger::codes::ASSIGNED;
+use book_ledger::codes::BLOCKED_LIFE;
 use book_ledger::codes::CONFIGURED;
 use book_ledger::codes::INITIALIZED;
 use book_ledger::codes::RUNNABLE;
@@ -17,6 +18,7 @@ use book_ledger::codes::TDCX;
 use book_ledger::codes::TDR;
 use book_ledger::codes::TEARDOWN;
 use book_ledger::codes::UNINITIALIZED;
+use book_ledger::codes::WRITTEN_BACK;
 use book_ledger::sizes;
 use book_ledger::tables;
 use book_ledger::words::Domain;
@@ -31,6 +33,7 @@ use call_plan::edit::FrameEdit;
 use call_plan::edit::PageEdit;
 use call_plan::edit::Plan;
 use call_plan::edit::StockEdit;
+use call_plan::edit::Sweep;
 use call_plan::lookup;
 use call_plan::lookup::NO_FRAME;
 use call_plan::lookup::Operand;
@@ -61,6 +64,16 @@ pub fn plan_life(
             change::becomes(x, change::with_life(d, life))
         }
     }
+}
+
+// cachewb: every domain in blocked becomes blocked and written back.
+pub fn plan_cachewb() -> Plan
+    ensures { λ r. ⌜ r ≡ cachewbPlan ⌝ }
+{
+    Plan::Each(Sweep {
+        from: BLOCKED_LIFE,
+        to: WRITTEN_BACK,
+    })
 }
 
 // init and finalize: the op state asked for, and what it becomes.

@@ -34,6 +34,7 @@ planOf base t (Call.KeyFree d) = domains.keyfreePlan base t d
 planOf base t (Call.Reclaim f) = pages.reclaimPlan base t f
 planOf base t (Call.ReadPage f) = pages.readpagePlan base t f
 planOf base t (Call.ReadEntry d gpa level) = trees.readentryPlan base t d gpa level
+planOf base t (Call.CacheWb) = domains.cachewbPlan
 
 -- all that a call settles: its answer with what is read out, the lent tables and the gauge
 pub record Outcome : Type 0 where

@@ -15,6 +15,7 @@ use book_ledger::codes::PENDING;
 use book_ledger::codes::RUNNABLE;
 use book_ledger::codes::TEARDOWN;
 use book_ledger::codes::UNINITIALIZED;
+use book_ledger::codes::WRITTEN_BACK;
 use book_ledger::count;
 use call_plan::edit::Plan;
 
@@ -189,8 +190,8 @@ fn plan_of(
             stock,
             entries,
             domain,
-            BLOCKED_LIFE,
-            BLOCKED_LIFE,
+            WRITTEN_BACK,
+            WRITTEN_BACK,
             TEARDOWN,
         ),
         Call::Reclaim { frame } => call_pages::plan_reclaim(
@@ -219,6 +220,7 @@ fn plan_of(
             gpa,
             level,
         ),
+        Call::CacheWb => call_domains::plan_cachewb(),
     }
 }
 

@@ -1,4 +1,5 @@
-// What an accepted call writes: at most one frame, one control page, one domain's scalars, one block of the stock and one entry.
+// What an accepted call writes: at most one frame, one control page, one domain's scalars, one block of the stock and one entry; or the
+// lifecycle of every domain that has a certain one.
 use base_calls::Answer;
 use base_units::address::Pfn;
 use book_ledger::words::Domain;
@@ -44,8 +45,15 @@ pub struct Edit {
     pub entry: EntryEdit,
 }
 
-// An answer that changes no table, or what an accepted call writes.
+// Every record in use whose lifecycle is `from` gets the lifecycle `to`.
+pub struct Sweep {
+    pub from: u64,
+    pub to: u64,
+}
+
+// An answer that changes no table, or what an accepted call writes: of one domain, or of each.
 pub enum Plan {
     Say(Answer),
     Do(Edit),
+    Each(Sweep),
 }

@@ -1,4 +1,4 @@
--- Which ask a request makes: each call's number, in the order of "The calls", behind reset and the setting of the marks.
+-- Which ask a request makes: each call's number, in the order of "The calls", behind reset and the setting of the marks; then the requests' calls.
 use Rattle.base_rules.specs.Basics.{ℕ, List, [], _∷_, getD}
 use Rattle.base_calls.specs.declared.{Call.Call, Ask.Ask, Ask.the-variants.Host, Ask.the-variants.Marks, Ask.the-variants.Reset, Ask.the-variants.Unreadable}
 use Rattle.door_requests.specs.declared.Request.{Request}
@@ -26,6 +26,7 @@ asks r =
     ∷ Host (Call.Reclaim (r .frame))
     ∷ Host (Call.ReadPage (r .frame))
     ∷ Host (Call.ReadEntry (r .domain) (r .gpa) (r .level))
+    ∷ Host Call.CacheWb
     ∷ []
 
 -- a number past the last names nothing

@@ -83,6 +83,7 @@ pub fn ask_of(r: Request) -> Ask
             gpa,
             level: r.level,
         }),
+        20 => Ask::Host(Call::CacheWb),
         _ => Ask::Unreadable,
     }
 }

@@ -1,5 +1,5 @@
 -- Document 01, "The calls" and "The script": a row for each call, its name, the units of its operands in table order, and the call that it makes
--- of their numbers, counted from 0.
+-- of their numbers, counted from 0. Then the requests' calls.
 use Rattle.base_rules.specs.Basics.{ℕ, List, [], _∷_}
 use Prim.Native.String.{String}
 use Rattle.base_units.specs.declared.address.{Hpa.Hpa, Gpa.Gpa}
@@ -42,4 +42,5 @@ rows =
     ∷ row "reclaim" ("hpa" ∷ []) (λ n. Call.Reclaim (hpa (n 0)))
     ∷ row "readpage" ("hpa" ∷ []) (λ n. Call.ReadPage (hpa (n 0)))
     ∷ row "readentry" ("hpa" ∷ "gpa" ∷ "level" ∷ []) (λ n. Call.ReadEntry (hpa (n 0)) (gpa (n 1)) (n 2))
+    ∷ row "cachewb" [] (λ n. Call.CacheWb)
     ∷ []

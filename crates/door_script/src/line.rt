@@ -19,10 +19,10 @@ pub const LF: u8 = b'\n';
 
 const PLACE: u8 = b'#';
 
-const ROWS: usize = 18;
+const ROWS: usize = 19;
 
 // A row for each call, in the order of `built`: its line, with `#` in each number's place.
-const TABLE: [u8; 374] = *b"create\thpa\t#\tkey\t#\n\
+const TABLE: [u8; 382] = *b"create\thpa\t#\tkey\t#\n\
     keyconfig\thpa\t#\n\
     addcx\thpa\t#\thpa\t#\n\
     init\thpa\t#\n\
@@ -39,7 +39,8 @@ const TABLE: [u8; 374] = *b"create\thpa\t#\tkey\t#\n\
     keyfree\thpa\t#\n\
     reclaim\thpa\t#\n\
     readpage\thpa\t#\n\
-    readentry\thpa\t#\tgpa\t#\tlevel\t#\n";
+    readentry\thpa\t#\tgpa\t#\tlevel\t#\n\
+    cachewb\n";
 
 pub enum Line {
     Call(Call),
@@ -198,6 +199,7 @@ fn built(row: usize, a: u64, b: u64, c: u64, d: u64) -> Call
             gpa: Gpa(b),
             level: c as usize,
         },
+        18 => Call::CacheWb,
         _ => Call::Create {
             frame: Hpa(a),
             key: b,

@@ -21,6 +21,7 @@ use Rattle.call_trees.specs.Trees.{septremovePlan, septremoveAt}
 use Rattle.call_adds.specs.Adds.{addTableAt, septaddPlan, pagePlan, freeFor}
 use Rattle.call_adds.specs.Adds as adds
 use Rattle.call_carry.specs.Carry.{afterFrame, afterPage, afterDomain, afterEntry, afterUse, afterRecord, afterBlock, applied, carried}
+use Rattle.call_carry.specs.Carry.{sweptAt, sweptFrom, swept, sweptTables}
 use Rattle.call_pages.specs.Pages.{readpagePlan, reclaimPlan, reclaimAt, reclaimTdr, reclaimChild}
 use Rattle.call_host.specs.Calls.{planOf}
 
@@ -31,7 +32,7 @@ unfolding choose given between frameOf hpaOf rowOf gpaFits indexAt wordOf bitSet
     createPlan entryFor onReach blockedState isTracked addTableAt adds.addPageAt septaddPlan pagePlan blockAt blockPlan pageremoveAt pageremovePlan
     readpagePlan afterFrame afterPage afterDomain afterEntry afterUse afterRecord afterBlock applied carried planOf allFrom bitOf onParties isNda
     partiesFor spotOperand spotFor lifePlan opPlan freeFor trackedFor unblockAt unblockPlan readentryAt readentryPlan unblockedState septremovePlan
-    septremoveAt tableEmpty freeAt reclaimPlan reclaimAt reclaimTdr reclaimChild
+    septremoveAt tableEmpty freeAt reclaimPlan reclaimAt reclaimTdr reclaimChild sweptAt sweptFrom swept sweptTables
 call-open = tt
 
 unfoldable pub line-open : Unit {0}

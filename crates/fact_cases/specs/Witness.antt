@@ -13,6 +13,7 @@ beside =
     ∷ Call.KeyConfig (hpa 1073741824)
     ∷ Call.AddCx (hpa 1073741824) (hpa 1073745920)
     ∷ Call.FlushDone (hpa 1073741824)
+    ∷ Call.CacheWb
     ∷ Call.KeyFree (hpa 1073741824)
     ∷ Call.Create (hpa 1073750016) 32
     ∷ []

@@ -2,7 +2,7 @@
 use Rattle.base_rules.specs.Basics.{_≡_, true, ℕ, _<_, _≤_, length}
 use Rattle.base_rules.proofs.Facts.{ap, arith, by-lt}
 use Rattle.base_units.specs.Limits.{between, controlPages, keyLeast, keyMost, epochLeast, epochMost}
-use Rattle.book_ledger.specs.{Codes.TEARDOWN, Codes.RUNNABLE, Codes.NDA, Tables.Tables, Words.DomainFits}
+use Rattle.book_ledger.specs.{Codes.WRITTEN-BACK, Codes.RUNNABLE, Codes.NDA, Tables.Tables, Words.DomainFits}
 use Rattle.book_range.specs.Range.{domainOk}
 use Rattle.book_ledger.specs.declared.words.{Frame.Frame, Domain.Domain}
 use Rattle.fact_keeps.specs.Views.{kind, life, listed, children, frame, view}
@@ -13,7 +13,7 @@ use Rattle.book_ledger.proofs.Outside.{frame-out}
 
 pub record DomainGood (frames : ℕ) (d : Domain) : Type 0 where
   pub key : (keyLeast ≤ d .key) × (d .key ≤ keyMost)
-  pub life : d .life ≤ TEARDOWN
+  pub life : d .life ≤ WRITTEN-BACK
   pub op : d .op ≤ RUNNABLE
   pub listed : d .listed ≤ controlPages
   pub children : d .children ≤ frames

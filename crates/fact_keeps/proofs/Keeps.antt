@@ -8,24 +8,24 @@ use Rattle.book_ledger.specs.{Count.usedFrames, Tables.Tables}
 use Rattle.book_range.specs.Range.{lentOk}
 use Rattle.base_calls.specs.declared.{Answer.the-variants.No, Call.Call}
 use Rattle.call_plan.specs.declared.edit.Plan.{Plan}
-use Rattle.call_carry.specs.Carry.{applied, carried}
+use Rattle.call_carry.specs.Carry.{applied, sweptTables, carried}
 use Rattle.call_host.specs.Calls.{Outcome, outcome, planOf, gaugeAfter, settled, ruleOf, callOf}
-use Rattle.fact_keeps.proofs.{Stores.same-lengths, Ranged.of-lent, Ranges.lent-of, Plans.Keep, Plans.says, Plans.does, Plans.plan-keeps}
+use Rattle.fact_keeps.proofs.{Stores.same-lengths, Ranged.of-lent, Ranges.lent-of, Plans.Keep, Plans.says, Plans.does, Plans.sweeps}
 use Rattle.fact_keeps.specs.Runs.{usedBy, gaugeWith, ruleWith}
-use Rattle.fact_keeps.proofs.Used.{used-after}
+use Rattle.fact_keeps.proofs.{Plans.plan-keeps, Used.used-after}
 
 module _ (base : Hpa) (t : Tables) (ok : lentOk base t ≡ true) where
   plan-kept : {p : Plan} → Keep base t p → lentOk base (carried t p .tables) ≡ true
   unfolding carried
-  plan-kept k = elim k [ says ↦ ok | does {e} k ↦ of-lent base (applied e t) (k .lent) ]
+  plan-kept k = elim k [ says ↦ ok | does {e} k ↦ of-lent base (applied e t) (k .lent) | sweeps {w} k ↦ of-lent base (sweptTables w t) (k .lent) ]
 
   plan-used : {p : Plan} → Keep base t p → usedFrames (carried t p .tables .frames) ≡ usedBy p t (usedFrames (t .frames))
-  unfolding carried usedBy applied
-  plan-used k = elim k [ says ↦ refl | does k ↦ used-after (k .within .sized) (k .within .frames) ]
+  unfolding carried usedBy applied sweptTables
+  plan-used k = elim k [ says ↦ refl | does k ↦ used-after (k .within .sized) (k .within .frames) | sweeps _ ↦ refl ]
 
   plan-length : {p : Plan} → Keep base t p → length (carried t p .tables .frames) ≡ length (t .frames)
-  unfolding carried
-  plan-length k = elim k [ says ↦ refl | does {e} k ↦ same-lengths e t .frames ]
+  unfolding carried sweptTables
+  plan-length k = elim k [ says ↦ refl | does {e} k ↦ same-lengths e t .frames | sweeps _ ↦ refl ]
 
   kept : (c : Call) → Keep base t (planOf base t c)
   kept c = plan-keeps base t (lent-of base t ok) c

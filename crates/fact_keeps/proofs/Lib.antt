@@ -7,6 +7,7 @@ pub mod Facts
 pub mod Says
 pub mod Ranges
 pub mod Edits
+pub mod Sweeps
 pub mod Lookups
 pub mod Plans
 pub mod Used

@@ -4,8 +4,8 @@ use Rattle.base_rules.proofs.Facts.{refl, ap, _∙_, inr, arith, eqb-true, ltb-
 use Rattle.base_units.specs.Limits.{keyLeast, keyMost, controlPages, epochMost}
 use Rattle.base_units.specs.declared.address.{Hpa.Hpa, Gpa.Gpa, Pfn.Pfn}
 use Rattle.book_stock.proofs.Lowest.{lowest-found}
-use Rattle.book_ledger.specs.Codes.{ASSIGNED, CONFIGURED, BLOCKED-LIFE, TEARDOWN, UNINITIALIZED, INITIALIZED, RUNNABLE, FREE, NL-MAPPED, MAPPED, PENDING}
-use Rattle.book_ledger.specs.{Codes.NL-BLOCKED, Codes.BLOCKED, Codes.PENDING-BLOCKED, Tables.Tables}
+use Rattle.book_ledger.specs.Codes.{ASSIGNED, CONFIGURED, BLOCKED-LIFE, TEARDOWN, WRITTEN-BACK, UNINITIALIZED, INITIALIZED, RUNNABLE, FREE, NL-MAPPED}
+use Rattle.book_ledger.specs.{Codes.MAPPED, Codes.PENDING, Codes.NL-BLOCKED, Codes.BLOCKED, Codes.PENDING-BLOCKED, Tables.Tables}
 use Rattle.book_ledger.specs.declared.words.{Frame.Frame, Domain.Domain, Entry.Entry}
 use Rattle.base_calls.specs.declared.{Answer.Answer, Call.Call}
 use Rattle.call_plan.specs.{Edits.entry, Edits.freeEntry, Lookup.onParties, Lookup.rootIn, Lookup.partiesFor, Lookup.spotFor, Lookup.builtFor}
@@ -16,12 +16,12 @@ use Rattle.call_plan.specs.Entries.{blockedState, unblockedState, onReach}
 use Rattle.call_plan.specs.Changes.{refuse, become, gain, lose, onFrame}
 use Rattle.call_plan.specs.declared.{lookup.Subject.Subject, edit.FrameEdit.FrameEdit, edit.PageEdit.PageEdit, edit.DomainEdit.DomainEdit}
 use Rattle.call_plan.specs.declared.{edit.StockEdit.StockEdit, edit.EntryEdit.EntryEdit, edit.Edit.Edit, edit.Plan.Plan, edit.Plan.the-variants.Say}
-use Rattle.call_plan.specs.declared.{edit.Plan.the-variants.Do, lookup.Operand.Operand, entry.Reach.Reach}
+use Rattle.call_plan.specs.declared.{edit.Sweep.Sweep, edit.Plan.the-variants.Do, edit.Plan.the-variants.Each, lookup.Operand.Operand, entry.Reach.Reach}
 use Rattle.call_host.specs.Calls.{planOf}
 use Rattle.fact_keeps.specs.Views.{number, frame, view}
 use Rattle.fact_keeps.proofs.Stores.{FrameIn, frame-kept, frame-set, EntryIn, entry-kept, entry-set}
 use Rattle.fact_keeps.proofs.Ranged.{IsBlock, between-true, sizesIn, Sized, sized, root-is, Lent}
-use Rattle.fact_keeps.proofs.{Facts.DomainGood, Kept.Kept, Edits.keep-taken}
+use Rattle.fact_keeps.proofs.{Facts.DomainGood, Kept.Kept, Edits.keep-taken, Sweeps.KeptSweep, Sweeps.keep-sweep}
 use Rattle.fact_keeps.proofs.Says.{OperandSays, ReachSays, Owned, Offered, free-says, tracked-says, on-lowest, on-operand, on-lookup, on-parties}
 use Rattle.fact_keeps.proofs.Says.{on-reach, on-walk, frame-says, parties-say, built-says, spot-built, no-frame}
 use Rattle.fact_keeps.proofs.Frames.{freed-good, tdr-good, tdcx-good, ept-good, reg-good, dated-good, tree-epoch}
@@ -31,10 +31,11 @@ use Rattle.call_adds.specs.Adds as adds
 use Rattle.call_trees.specs.Trees as trees
 use Rattle.call_pages.specs.Pages as pages
 
--- an answer, or an edit that keeps the range check and sets a frame of the window, if any
+-- an answer, an edit that keeps the range check and sets a frame of the window, if any, or a sweep that keeps it
 pub data Keep (base : Hpa) (t : Tables) : Plan → Type 0 where
   says : {a : Answer} → Keep base t (Say a)
   does : {e : Edit} → Kept base t e → Keep base t (Do e)
+  sweeps : {w : Sweep} → KeptSweep base t w → Keep base t (Each w)
 
 -- ---- small facts
 
@@ -133,7 +134,7 @@ module _ (base : Hpa) (t : Tables) (ok : Lent base t) where
 
   -- ---- the calls on a domain's record
 
-  life-keeps : (d : Hpa) (least most life : ℕ) → life ≤ TEARDOWN → Keep base t (plans.lifePlan base t d least most life)
+  life-keeps : (d : Hpa) (least most life : ℕ) → life ≤ WRITTEN-BACK → Keep base t (plans.lifePlan base t d least most life)
   unfolding plans.lifePlan given
   life-keeps d least most life h = on-domain d no-frame _ (λ x _ k _. check _ _ _ (λ _. becomes x k (search) refl))
 
@@ -199,7 +200,7 @@ module _ (base : Hpa) (t : Tables) (ok : Lent base t) where
       let l = own .table (inr (omega (arith, ie .entry .state))) in
       loses x (e .frame) k (own .inside) (stock-gives {b = number (view t) (e .frame .0)} (omega arith)) (emptied (ie .entry .block)))))
   plan-keeps (Call.FlushDone d) = life-keeps d ASSIGNED CONFIGURED BLOCKED-LIFE (omega arith)
-  plan-keeps (Call.KeyFree d) = life-keeps d BLOCKED-LIFE BLOCKED-LIFE TEARDOWN (omega arith)
+  plan-keeps (Call.KeyFree d) = life-keeps d WRITTEN-BACK WRITTEN-BACK TEARDOWN (omega arith)
   plan-keeps (Call.Reclaim f) = on-frame f 0 _ (λ n h. choose-both (Keep base t) _ _ _ (λ _. says) (λ _. choose-both (Keep base t) _ _ _
       (λ _. on-lookup (Keep base t) (domain-for base t ok n) _ _ (λ a _. says) (λ x k. check _ _ _ (λ _. check _ _ _ (λ _.
       by-parts (frame-set (k .tdr) (freed-good (sizesIn t))) domain-stays (stock-gives {b = x .bit} (omega (arith, k .bit, k .rec))) entry-kept))))
@@ -212,3 +213,4 @@ module _ (base : Hpa) (t : Tables) (ok : Lent base t) where
   plan-keeps (Call.ReadEntry d gpa level) = on-spot d no-frame gpa level 0 INITIALIZED RUNNABLE _ (λ x _ k _.
       on-walk (Keep base t) (walk-for base t ok x k gpa level) _ _ _ (λ j i. says) (λ _. says)
       (λ b i sp. choose-both (Keep base t) _ _ _ (λ _. says) (λ _. says)))
+  plan-keeps (Call.CacheWb) = sweeps (keep-sweep base t ok (record { from = BLOCKED-LIFE; to = WRITTEN-BACK }) (omega arith))

@@ -5,7 +5,7 @@ use Rattle.book_gauge.specs.{Marks.marksOk, Update.after, declared.Gauge.Gauge}
 use Rattle.book_ledger.specs.{Codes.NDA, Count.oneUsed, Count.usedFrames, Tables.Tables, declared.words.Frame.Frame}
 use Rattle.book_range.specs.Range.{lentOk}
 use Rattle.base_calls.specs.{Answers.valuesOf, declared.Answer.Answer, declared.Answer.the-variants.No, declared.Call.Call, Operands.NONE}
-use Rattle.call_plan.specs.declared.edit.{FrameEdit.FrameEdit, Plan.Plan, Plan.the-variants.Say, Plan.the-variants.Do}
+use Rattle.call_plan.specs.declared.edit.{FrameEdit.FrameEdit, Plan.Plan, Plan.the-variants.Say, Plan.the-variants.Do, Plan.the-variants.Each}
 use Rattle.call_carry.specs.Carry.{carried}
 use Rattle.call_host.specs.Calls.{Outcome, outcome, planOf, callOf}
 
@@ -21,6 +21,7 @@ usedAfter (FrameEdit.Set n f) fs used = used - oneUsed fs (n .0) + isUsed f
 unfoldable pub usedBy : Plan → Tables → ℕ → ℕ
 usedBy (Say a) t used = used
 usedBy (Do e) t used = usedAfter (e .frame) (t .frames) used
+usedBy (Each w) t used = used
 
 -- ---- a call's own rule with the count carried: `ruleOf`, and the count for the next call
 

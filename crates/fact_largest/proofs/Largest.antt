@@ -1,4 +1,4 @@
--- Request 6's cases are answered as it says, and the lent words have room.
+-- Request 6's cases are answered as it says, request 5's sweep reaches the last record, and the lent words have room.
 use Rattle.base_rules.specs.Basics.{choose, given}
 use Rattle.base_rules.proofs.Facts.{refl, arith, lit≤, lit<}
 use lib.{Count.ones, Ieee.div, Ieee.ofInt, Ieee.le, Ieee.lt}
@@ -13,7 +13,7 @@ use Rattle.fact_cases.specs.Cases.{base, run}
 use Rattle.fact_cases.proofs.Open.{call-open}
 use Rattle.fact_paper.specs.{Numbers.Lamp, Harmed.AllSay, Harmed.eachSays, Ranges.allIn, Ranges.noneIn}
 use Rattle.fact_paper.proofs.Harmed.{say, all-say}
-use Rattle.fact_largest.specs.Largest.{fresh, ends, rows, crowded, noneLeft, Taken, Ranged, Room}
+use Rattle.fact_largest.specs.Largest.{fresh, ends, rows, crowded, noneLeft, Taken, Swept, Ranged, Room}
 
 pub ends-right : AllSay ends
 unfolding eachSays say call-open
@@ -26,6 +26,10 @@ none-left-right = all-say noneLeft refl
 pub taken : Taken
 unfolding run rows crowded call-open
 taken = record { created = refl; recordTaken = refl; added = refl; tableTaken = refl; tableBack = refl; recordBack = refl }
+
+pub swept-right : Swept
+unfolding run rows crowded call-open
+swept-right = record { last = refl; unused = refl }
 
 pub ranged : Ranged
 unfolding sizesOk lengthsOk framesOk baseOk ones allIn noneIn frameLimits frameOk entryOk pageOk pagesOk domainOk recordOk call-open

@@ -2,7 +2,7 @@
 use Rattle.base_rules.specs.Basics.{ℕ, zero, suc, _+_, _-_, _*_, _^_, _≡_, _<_, _≤_, Bool, true, false, List, [], _∷_, _++_, replicate}
 use Rattle.base_units.specs.Limits.{framesMost, recordsMost, tablesMost, keyMost, controlPages, epochMost}
 use Rattle.base_units.specs.declared.address.Hpa.{Hpa}
-use Rattle.book_ledger.specs.Codes.{REG, TEARDOWN, RUNNABLE, PENDING-BLOCKED}
+use Rattle.book_ledger.specs.Codes.{REG, WRITTEN-BACK, RUNNABLE, PENDING-BLOCKED}
 use Rattle.book_ledger.specs.Tables.{Tables, lent, frameAt}
 use Rattle.book_ledger.specs.Words.{frameFrom, frameWord, domainFrom, domainWord, entryFrom, entryWord}
 use Rattle.book_ledger.specs.declared.{sizes.Sizes.Sizes, words.Frame.Frame, words.Domain.Domain, words.Entry.Entry}
@@ -70,6 +70,11 @@ pub record Taken : Type 0 where
   pub tableBack : run (crowded ept tdr (kept 3 5) 1 1) (Call.Reclaim (frame 16378) ∷ []) .stock ≡ stock 0 1
   pub recordBack : run (crowded 0 tdr (kept 3 0) 0 1) (Call.Reclaim E ∷ []) .stock ≡ stock 0 0
 
+-- ---- request 5: record 63 is written back where it is in use and blocked, and no other record moves
+pub record Swept : Type 0 where
+  pub last : run (crowded 0 tdr (kept 2 4) 0 1) (Call.CacheWb ∷ []) .domains ≡ rows 63 ++ kept 4 4
+  pub unused : run (crowded 0 tdr (kept 2 4) 0 0) (Call.CacheWb ∷ []) .domains ≡ rows 63 ++ kept 2 4
+
 -- ---- answer 13: fresh tables are in range, and of the stored numbers the last ones
 abbrev sizes : Sizes
 sizes = record { frames = 16384; records = 64; tables = 256 }
@@ -85,6 +90,6 @@ pub record Room : Type 0 where
   pub frame : (f : Frame) → f .kind ≤ REG → f .owner .0 < framesMost → f .number < tablesMost → f .epoch ≤ epochMost → f .size ≡ 0
       → frameFrom (frameWord f) ≡ f
   pub records : recordsMost ≤ tablesMost
-  pub domain : (d : Domain) → d .key ≤ keyMost → d .life ≤ TEARDOWN → d .op ≤ RUNNABLE → d .listed ≤ controlPages → d .children ≤ framesMost
+  pub domain : (d : Domain) → d .key ≤ keyMost → d .life ≤ WRITTEN-BACK → d .op ≤ RUNNABLE → d .listed ≤ controlPages → d .children ≤ framesMost
       → d .epoch ≤ epochMost → d .width ≡ 0 → domainFrom (domainWord d) ≡ d
   pub entry : (e : Entry) → e .state ≤ PENDING-BLOCKED → e .frame .0 < framesMost → entryFrom (entryWord e) ≡ e

@@ -2,10 +2,10 @@
 -- keeps its walk and its frames.
 use Rattle.base_rules.specs.Basics.{_≡_, List, [], _∷_, ℕ, suc, _≤_, _<_, eqb, ltb}
 use Rattle.base_rules.proofs.Facts.{refl, sym, ap, _∙_, arith, eq-eqb, ne-eqb, lt-ltb, le-ltb, by-eq, by-lt}
-use Rattle.book_ledger.specs.{Codes.TDCX, Codes.EPT, declared.words.Frame.Frame, declared.words.Domain.Domain, declared.words.Entry.Entry}
+use Rattle.book_ledger.specs.{Codes.TDCX, Codes.EPT, Codes.TEARDOWN, declared.words.Frame.Frame, declared.words.Domain.Domain, declared.words.Entry.Entry}
 use Rattle.fact_keeps.specs.Views.{View, kind, owner, number, listed, children}
 use Rattle.fact_ownership.specs.Owned.{Found, found, table, walk, times, same, one, both, Extent, rootBlock, shapeOf, tree, controls, treeOf, finds}
-use Rattle.fact_ownership.specs.Owned.{mine, Owns, Block, root, below, Belongs, Untouched, shape, points}
+use Rattle.fact_ownership.specs.Owned.{mine, Owns, Block, root, below, Belongs, Besides, shape, points}
 use Rattle.fact_ownership.proofs.Sums.{one-le, size, size-length, weight-append, each-cong}
 use Rattle.fact_ownership.proofs.Walk.{table-le, times-self, same-walk}
 
@@ -119,26 +119,36 @@ pub same-controls : (s s′ : View) (d : ℕ) → number s′ d ≡ number s d �
 unfolding controls
 same-controls s s′ d e n c = rw (e, n) (each-cong (listed s (number s d)) (λ i. found (s′ .control (number s d) i) TDCX ∷ []) _ (λ i k. rw (c i) refl))
 
-module _ (z : Extent) (s s′ : View) (e : ℕ) (u : Untouched z s s′ e) where
+-- what a change of a record's scalars leaves, if its domain has what it had: how many pages and children, and whether its key is freed
+pub record Leaves (f : Domain → Domain) : Type 0 where
+  pub listed : (d : Domain) → f d .listed ≡ d .listed
+  pub children : (d : Domain) → f d .children ≡ d .children
+  pub freed : (d : Domain) → d .life ≡ TEARDOWN → f d .life ≡ TEARDOWN
+  pub keyed : (d : Domain) → f d .life ≡ TEARDOWN → d .life ≡ TEARDOWN
+
+pub leaves-all : Leaves (λ d. d)
+leaves-all = record { listed = λ d. refl; children = λ d. refl; freed = λ d q. q; keyed = λ d q. q }
+
+module _ {f : Domain → Domain} (lf : Leaves f) (z : Extent) (s s′ : View) (e : ℕ) (u : Besides f z s s′ e) where
   u-tdr : SameFrame s s′ e
   u-tdr = same-frame s s′ e (u .tdr)
 
-  pub untouched-mine : (x : Found) → mine s′ e x ≡ mine s e x
-  untouched-mine x = mine-choose s s′ e e x
+  u-mine : (x : Found) → mine s′ e x ≡ mine s e x
+  u-mine x = mine-choose s s′ e e x
       (λ m. let k = same-frame s s′ (x .frame) (u .kept (x .frame) (mine-belongs m)) in
       record { typed = m .typed; kind = k .kind ∙ m .kind; owner = k .owner ∙ m .owner })
       (λ m. let b = u .gained (x .frame) (mine-belongs m) in let k = same-frame s s′ (x .frame) (u .kept (x .frame) b) in
       record { typed = m .typed; kind = sym (k .kind) ∙ m .kind; owner = b .owner })
 
-  pub untouched-owns : (l : List Found) → Owns s e l → Owns s′ e l
-  untouched-owns l o = record {
-    once = λ x. o .once x ∙ sym (untouched-mine x);
-    count = o .count ∙ sym (rw (u-tdr .number) (ap (λ (x : Domain). x .children) (u .record′)));
+  pub same-owns : (l : List Found) → Owns s e l → Owns s′ e l
+  same-owns l o = record {
+    once = λ x. o .once x ∙ sym (u-mine x);
+    count = o .count ∙ sym (rw (u-tdr .number) (ap (λ (x : Domain). x .children) (u .record′) ∙ lf .children _));
   }
 
-  pub untouched-finds : Owns s e (finds z s e) → finds z s′ e ≡ finds z s e
+  pub same-finds : Owns s e (finds z s e) → finds z s′ e ≡ finds z s e
   unfolding finds
-  untouched-finds o =
+  same-finds o =
       let w = kept-walk z s s′ e (u-tdr .number) (λ b i h k. let q = same-entry s s′ b i (u .tree b i h k) in (q .shape, q .points))
       (λ g h b. ap (λ (x : Frame). x .number) (u .kept g (record { type = rw h (omega arith); owner = b }))) o in
-      rw (same-controls s s′ e (u-tdr .number) (ap (λ (x : Domain). x .listed) (u .record′)) (u .pages), w) refl
+      rw (same-controls s s′ e (u-tdr .number) (ap (λ (x : Domain). x .listed) (u .record′) ∙ lf .listed _) (u .pages), w) refl

@@ -4,6 +4,7 @@ pub mod Domain
 pub mod Sound
 pub mod Shift
 pub mod Tidy
+pub mod Written
 pub mod Cases
 pub mod Facts
 pub mod Room

@@ -9,8 +9,8 @@ use Rattle.base_levels.specs.Level.{topLevel}
 use Rattle.base_units.specs.Limits.{tableEntries}
 use Rattle.base_units.specs.declared.address.{Hpa.Hpa, Gpa.Gpa, Pfn.Pfn, Place.Place}
 use Rattle.book_stock.proofs.Lowest.{lowest-found}
-use Rattle.book_ledger.specs.Codes.{NDA, TDR, EPT, REG, ASSIGNED, CONFIGURED, BLOCKED-LIFE, TEARDOWN, UNINITIALIZED, INITIALIZED, RUNNABLE, FREE, NL-MAPPED}
-use Rattle.book_ledger.specs.{Codes.MAPPED, Codes.PENDING, Codes.NL-BLOCKED, Codes.BLOCKED, Codes.PENDING-BLOCKED, Tables.Tables}
+use Rattle.book_ledger.specs.Codes.{NDA, TDR, EPT, REG, ASSIGNED, CONFIGURED, BLOCKED-LIFE, TEARDOWN, WRITTEN-BACK, UNINITIALIZED, INITIALIZED, RUNNABLE}
+use Rattle.book_ledger.specs.{Codes.FREE, Codes.NL-MAPPED, Codes.MAPPED, Codes.PENDING, Codes.NL-BLOCKED, Codes.BLOCKED, Codes.PENDING-BLOCKED, Tables.Tables}
 use Rattle.book_ledger.specs.declared.words.{Frame.Frame, Entry.Entry}
 use Rattle.book_walk.specs.Walk.{entryType}
 use Rattle.base_calls.specs.{Answers.numberOf, declared.Answer.Answer, declared.Call.Call}
@@ -42,6 +42,7 @@ pub data Good (base : Hpa) (t : Tables) (l : Lists) (c : Call) : Plan → Type 0
   reading : {a : Answer} → numberOf a ≡ 0 → left base t (roleOf c) l ≡ l → Good base t l c (Say a)
   steps : {e : Edit} {gone come : List Found} (n : Pfn) → subject base t (roleOf c) ≡ Place.At n
       → (After (view t) (view (applied e t)) e → Does t (view (applied e t)) l (left base t (roleOf c) l) (n .0) gone come) → Good base t l c (Do e)
+  writes : c ≡ Call.CacheWb → left base t (roleOf c) l ≡ l → Good base t l c plans.cachewbPlan
 
 good : {base : Hpa} {t : Tables} {l l′ : Lists} {c : Call} {p : Plan} (n : Pfn) → subject base t (roleOf c) ≡ Place.At n → left base t (roleOf c) l ≡ l′
     → Turn base t l l′ (n .0) p → Good base t l c p
@@ -125,14 +126,14 @@ module _ {base : Hpa} {t : Tables} {l : Lists} (st : State base t l) where
 
   -- ---- the calls on a domain's record
 
-  -- keyconfig, flushdone and keyfree: the lifecycle moves on, to teardown with keyfree alone
-  life-good : (c : Call) (d : Hpa) (least most now : ℕ) → most < TEARDOWN → subject base t (roleOf c) ≡ placeIn base t d
+  -- keyconfig, flushdone and keyfree: the lifecycle, which isn't teardown, moves on, to teardown with keyfree alone
+  life-good : (c : Call) (d : Hpa) (least most now : ℕ) → (least ≤ TEARDOWN → TEARDOWN ≤ most → ⊥) → subject base t (roleOf c) ≡ placeIn base t d
       → ((e : ℕ) → placeIn base t d ≡ Place.At (frame e) → Ends l e (finds (extent t) (view t) e) now (left base t (roleOf c) l))
       → Good base t l c (plans.lifePlan base t d least most now)
   unfolding plans.lifePlan given
   life-good c d least most now lo su le = on-domain c d su _ (λ e q k. check 3 0 (omega arith) λ u.
       let a = between-true least (recordOf t e .life) most u in
-      become-turn st e (record { tdr = k; held = λ z. omega (arith, a) }) _ refl refl refl (λ u. u) (le e q))
+      become-turn st e (record { tdr = k; held = λ z. lo (omega (arith, a)) (omega (arith, a)) }) _ refl refl refl (λ u. u) (le e q))
 
   -- init and finalize
   op-good : (c : Call) (d : Hpa) (old now : ℕ) → (now ≡ UNINITIALIZED → ⊥) → subject base t (roleOf c) ≡ placeIn base t d → left base t (roleOf c) l ≡ l
@@ -236,7 +237,7 @@ module _ {base : Hpa} {t : Tables} {l : Lists} (st : State base t l) where
       rw (root-is t (b - first) low) (subst (λ (x : ℕ). Turn base t l l n (plans.newRecord (frame n) key′ x (first + (b - first)) (b - first))) r
       (new-turn st n (is-nda t (frame n) e′) key′ (b - first) (ap (view t .used) r ∙ w .unused) (sole key′ alone))))))
   plan-good (Call.KeyConfig d) = unfold subject left roleOf in
-      life-good (Call.KeyConfig d) d ASSIGNED ASSIGNED CONFIGURED (omega arith) refl (λ n q. lives (omega arith))
+      life-good (Call.KeyConfig d) d ASSIGNED ASSIGNED CONFIGURED (λ a b. omega arith) refl (λ n q. lives (omega arith))
   plan-good (Call.AddCx d f) = unfold plans.addcxPlan plans.enlistAt gain subject left roleOf given in on-party (Call.AddCx d f) d refl
       (parties-say base t Mild mild-no d D (domain-for st) _ (frame-says base t f 1)) _ (λ m o e _ k.
       check 3 0 (omega arith) λ u. check 4 0 (omega arith) λ few. check 2 1 (omega arith) λ z.
@@ -289,9 +290,9 @@ module _ {base : Hpa} {t : Tables} {l : Lists} (st : State base t l) where
       skip _ (lose-some e _ (k .tdr) (mine-belongs m))
       (take-turn st e k live b i (x .entry .spot) some _ (block-given a-table ty (omega arith)) (λ _. empty-at _ u))))
   plan-good (Call.FlushDone d) = unfold subject left roleOf in
-      life-good (Call.FlushDone d) d ASSIGNED CONFIGURED BLOCKED-LIFE (omega arith) refl (λ n q. lives (omega arith))
+      life-good (Call.FlushDone d) d ASSIGNED CONFIGURED BLOCKED-LIFE (λ a b. omega arith) refl (λ n q. lives (omega arith))
   plan-good (Call.KeyFree d) = unfold subject left roleOf onPlace in
-      life-good (Call.KeyFree d) d BLOCKED-LIFE BLOCKED-LIFE TEARDOWN (omega arith) refl (λ n q. rw q (ends refl))
+      life-good (Call.KeyFree d) d WRITTEN-BACK WRITTEN-BACK TEARDOWN (λ a b. omega arith) refl (λ n q. rw q (ends refl))
   plan-good (Call.Reclaim f) = unfold pages.reclaimPlan pages.reclaimAt subject left roleOf given choose onPlace onLookup in
       on-frame (Call.Reclaim f) f 0 _ (λ n q.
       choose-both (Good base t l (Call.Reclaim f)) _ _ _ (λ _. answers (mild-no 2 0 (omega arith) (omega arith)))
@@ -307,3 +308,4 @@ module _ {base : Hpa} {t : Tables} {l : Lists} (st : State base t l) where
       on-walk (Turn base t l l e) (walk-good st e k gpa level topLevel _ (λ b p. p)) _ _ _ (λ j i. says (mild-stop 6 j i (omega arith) (omega arith)))
       (λ z. absurd z)
       (λ b i sp. choose-both (Turn base t l l e) _ _ _ (λ _. reads (reads-entry _ _ _) refl) (λ _. reads (reads-entry _ _ _) refl)))
+  plan-good (Call.CacheWb) = unfold left roleOf in writes refl refl

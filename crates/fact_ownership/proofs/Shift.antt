@@ -7,8 +7,8 @@ use Rattle.fact_keeps.specs.Views.{View, kind, owner, number, life}
 use Rattle.fact_ownership.specs.Owned.{Found, weight, times, same, one, Extent, finds, mine, Owns, Keyed, Block, root, below, Belongs, Untouched}
 use Rattle.fact_ownership.specs.{Reached.Lists, Always.Numbered, Always.a-record, Always.a-table, Always.blockOf}
 use Rattle.fact_ownership.proofs.Sums.{size, size-length}
-use Rattle.fact_ownership.proofs.Domain.{SameFrame, same-frame, SameEntry, SameRecord, untouched-owns, untouched-finds}
-use Rattle.fact_ownership.proofs.Sound.{held, held-key, held-freed, childs, childs-tdr, Sound, owns-walk, Spare, not-spare, apart, holds, holds-size}
+use Rattle.fact_ownership.proofs.Domain.{SameFrame, same-frame, SameEntry, SameRecord, leaves-all, same-owns}
+use Rattle.fact_ownership.proofs.Sound.{held, held-besides, childs, childs-tdr, Sound, owns-walk, Spare, not-spare, apart, holds, holds-size}
 
 -- ---- the relation
 
@@ -111,15 +111,7 @@ module _ {z : Extent} {s : View} {l : Lists} (ok : Sound z s l) {s′ : View} {l
 
   -- another domain has what it had
   held-same : (e : ℕ) → kind s e ≡ TDR → (e ≡ d → ⊥) → held z s l e ≡ held z s′ l′ e
-  held-same e ke ne =
-      let u = untouched e ke ne in
-      let sf = same-frame s s′ e (u .tdr) in
-      let lf : life s′ (number s′ e) ≡ life s (number s e) = ap (life s′) (sf .number) ∙ ap (λ (x : Domain). x .life) (u .record′) in
-      by-eq (life s (number s e)) TEARDOWN
-      (λ x. held-freed z s l e ke x ∙ sym (p .rest e ke x ne) ∙ sym (held-freed z s′ l′ e (sf .kind ∙ ke) (lf ∙ x)))
-      (λ x. let k : Keyed s e = record { tdr = ke; held = x } in
-      held-key z s l e k ∙ sym (untouched-finds z s s′ e u (owns-walk ok k))
-      ∙ sym (held-key z s′ l′ e (record { tdr = sf .kind ∙ ke; held = λ y. x (sym lf ∙ y) })))
+  held-same e ke ne = held-besides leaves-all ok l′ e (untouched e ke ne) ke (λ x. p .rest e ke x ne)
 
   pub shifted : Sound z s′ l′
   shifted = record {
@@ -129,7 +121,7 @@ module _ {z : Extent} {s : View} {l : Lists} (ok : Sound z s l) {s′ : View} {l
           count = omega (arith, size-length (held z s′ l′ d), p .finds (λ y. 1), holds-size ok d, p .count, childs-tdr s′ d (rw q at k));
         }))
         (λ q. let ke = was-tdr e k q in subst (λ (x : List Found). Owns s′ e x) (held-same e ke q)
-        (untouched-owns z s s′ e (untouched e ke q) (held z s l e) (ok .owns e ke)));
+        (same-owns leaves-all z s s′ e (untouched e ke q) (held z s l e) (ok .owns e ke)));
     unique = λ k f g nb kf kg q. elim (p .numbers k f nb kf) [
       | as-before a b _ ↦ elim (p .numbers k g nb kg) [ as-before c e _ ↦ ok .unique k f g nb a c (sym b ∙ q ∙ e) | afresh _ h _ ↦ h f kf q ]
       | afresh _ h _ ↦ sym (h g kg (sym q))

@@ -1,14 +1,14 @@
 -- What every state after a fresh start has, from which demand 3 follows.
 use Rattle.base_rules.specs.Basics.{_≡_, true, false, List, [], ℕ, _≤_, _<_, eqb, choose}
 use Rattle.base_rules.proofs.Facts.{refl, sym, ap, _∙_, subst, true≢false, inl, inr, le-trans, le-antisymm, arith, eq-eqb, ne-eqb, by-eq}
-use Rattle.book_ledger.specs.Codes.{TDR, EPT, TEARDOWN}
+use Rattle.book_ledger.specs.{Codes.TDR, Codes.EPT, Codes.TEARDOWN, declared.words.Domain.Domain}
 use Rattle.fact_keeps.specs.Views.{View, kind, owner, number, life, children}
 use Rattle.fact_ownership.specs.Owned.{Found, found, weight, times, same, one, both, Extent, rootBlock, tree, controls, treeOf, finds, mine, Owns, Keyed}
-use Rattle.fact_ownership.specs.{Owned.Block, Owned.root, Owned.below, Always.Numbered, Always.a-record, Always.a-table, Always.blockOf}
+use Rattle.fact_ownership.specs.{Owned.Block, Owned.root, Owned.below, Owned.Besides, Always.Numbered, Always.a-record, Always.a-table, Always.blockOf}
 use Rattle.fact_ownership.specs.Reached.{Lists}
 use Rattle.fact_ownership.proofs.Sums.{by-pair, size, weight-append, weight-mono, weight-none, one-le}
 use Rattle.fact_ownership.proofs.Walk.{reads, leads, elsewhere, reads-bound, Path·to, reads-path, path-last}
-use Rattle.fact_ownership.proofs.Domain.{Mine, mine-le, mine-not, mine-belongs, home, owns-size}
+use Rattle.fact_ownership.proofs.Domain.{Mine, mine-le, mine-not, mine-belongs, home, owns-size, same-frame, Leaves, same-finds}
 
 -- What domain d has: what is found while it holds its key, then what is left; nothing where there is no such domain. And its child count.
 pub held : Extent → View → Lists → Lists
@@ -129,3 +129,15 @@ Bare n = (n ≡ TDR → ⊥) × (n ≡ EPT → ⊥)
 pub not-bare : {k n : ℕ} → Numbered k → n ≡ k → Bare n → ⊥
 not-bare a-record q b = b .0 q
 not-bare a-table q b = b .1 q
+
+-- a domain of which nothing moved but scalars that leave it what it had: held before and after
+pub held-besides : {f : Domain → Domain} → Leaves f → {z : Extent} {s : View} {l : Lists} → Sound z s l → {s′ : View} (l′ : Lists) (e : ℕ)
+    → Besides f z s s′ e → kind s e ≡ TDR → (life s (number s e) ≡ TEARDOWN → l′ e ≡ l e) → held z s l e ≡ held z s′ l′ e
+held-besides {f} lf {z} {s} {l} ok {s′} l′ e u ke rest =
+    let sf = same-frame s s′ e (u .tdr) in
+    let now : life s′ (number s′ e) ≡ f (s .domain (number s e)) .life = ap (life s′) (sf .number) ∙ ap (λ (x : Domain). x .life) (u .record′) in
+    by-eq (life s (number s e)) TEARDOWN
+    (λ x. held-freed z s l e ke x ∙ sym (rest x) ∙ sym (held-freed z s′ l′ e (sf .kind ∙ ke) (now ∙ lf .freed _ x)))
+    (λ x. let k : Keyed s e = record { tdr = ke; held = x } in
+    held-key z s l e k ∙ sym (same-finds lf z s s′ e u (owns-walk ok k))
+    ∙ sym (held-key z s′ l′ e (record { tdr = sf .kind ∙ ke; held = λ y. x (lf .keyed _ (sym now ∙ y)) })))

@@ -1,6 +1,7 @@
 -- What demand 3 speaks of: a new walk of a domain's tree, the frames recorded as its own, and what is a domain's to keep.
 use Rattle.base_rules.specs.Basics.{ℕ, zero, suc, _+_, _<_, _≡_, Bool, true, false, List, [], _∷_, _++_, eqb, ltb, length, choose}
-use Rattle.book_ledger.specs.Codes.{TDR, TDCX, EPT, REG, TEARDOWN, FREE, NL-MAPPED, NL-BLOCKED}
+use Rattle.book_ledger.specs.Codes.{TDR, TDCX, EPT, REG, BLOCKED-LIFE, TEARDOWN, WRITTEN-BACK, FREE, NL-MAPPED, NL-BLOCKED}
+use Rattle.book_ledger.specs.declared.words.Domain.{Domain}
 use Rattle.fact_keeps.specs.Views.{View, kind, owner, number, life, listed, children}
 
 -- ---- the tables, read number by number
@@ -111,7 +112,7 @@ pub record Owns (s : View) (d : ℕ) (l : List Found) : Type 0 where
   pub once : (x : Found) → times x l ≡ mine s d x
   pub count : length l ≡ children s (number s d)
 
--- d is a domain "that still holds its key"
+-- d is a domain "that still holds its key": before teardown, blocked and written back included
 pub record Keyed (s : View) (d : ℕ) : Type 0 where
   pub tdr : kind s d ≡ TDR
   pub held : life s (number s d) ≡ TEARDOWN → ⊥
@@ -132,13 +133,36 @@ pub data Block (z : Extent) (s : View) (d b : ℕ) : Type 0 where
   root : b ≡ rootBlock z s d → Block z s d b
   below : (g : ℕ) → kind s g ≡ EPT → owner s g ≡ d → b ≡ number s g → Block z s d b
 
--- nothing of domain e moved: its TDR, its record with its control pages, its frames (none lost, none gained), its tree, what it has in use
-pub record Untouched (z : Extent) (s s′ : View) (e : ℕ) : Type 0 where
+-- of domain e nothing moved but the scalars of its record, which became what f makes of them: its TDR, its control pages, its frames (none
+-- lost, none gained), its tree and what it has in use are as they were
+pub record Besides (f : Domain → Domain) (z : Extent) (s s′ : View) (e : ℕ) : Type 0 where
   pub tdr : s′ .frame e ≡ s .frame e
-  pub record′ : s′ .domain (number s e) ≡ s .domain (number s e)
+  pub record′ : s′ .domain (number s e) ≡ f (s .domain (number s e))
   pub pages : (i : ℕ) → s′ .control (number s e) i ≡ s .control (number s e) i
   pub kept : (f : ℕ) → Belongs s e f → s′ .frame f ≡ s .frame f
   pub gained : (f : ℕ) → Belongs s′ e f → Belongs s e f
   pub tree : (b i : ℕ) → Block z s e b → i < z .wide → s′ .entry b i ≡ s .entry b i
   -- and the in-use bits of its record and tables
   pub used : (b : ℕ) → Block z s e b → s′ .used b ≡ s .used b
+
+-- nothing of domain e moved, its record neither
+abbrev pub Untouched : Extent → View → View → ℕ → Type 0
+Untouched z s s′ e = Besides (λ d. d) z s s′ e
+
+-- ---- request 5: "every domain in blocked becomes blocked and written back"
+
+-- the lifecycle moves only from blocked, and every other field stays
+abbrev pub writtenBack : Domain → Domain
+writtenBack d = record {
+  key = d .key;
+  life = choose (eqb (d .life) BLOCKED-LIFE) WRITTEN-BACK (d .life);
+  op = d .op;
+  listed = d .listed;
+  children = d .children;
+  epoch = d .epoch;
+  width = d .width;
+}
+
+-- of domain e nothing moved but its lifecycle, if it was blocked
+abbrev pub WrittenBack : Extent → View → View → ℕ → Type 0
+WrittenBack z s s′ e = Besides writtenBack z s s′ e

@@ -9,7 +9,7 @@ use Rattle.book_ledger.specs.{Codes.NDA, Codes.TDR, Codes.TEARDOWN, Sizes.table
 use Rattle.base_calls.specs.{Answers.numberOf, declared.Call.Call}
 use Rattle.call_plan.specs.Lookup.{onPlace}
 use Rattle.call_host.specs.Calls.{Outcome, callOf, resetOf, marksOf}
-use Rattle.fact_ownership.specs.Owned.{Extent, Found, found, finds, times, Owns, Keyed, without, Belongs, Untouched}
+use Rattle.fact_ownership.specs.Owned.{Extent, Found, found, finds, times, Owns, Keyed, without, Belongs, Untouched, WrittenBack}
 use Rattle.fact_keeps.specs.Views.{kind, owner, number, life, frame, view, placeIn}
 
 -- ---- the lent tables, read number by number
@@ -21,12 +21,13 @@ extent t = record { tables = tablesOf (length (t .domains)) (length (t .entries)
 abbrev pub foundIn : Tables → ℕ → List Found
 foundIn t d = finds (extent t) (view t) d
 
--- ---- whom a call is on: D, or F where it takes no D; two calls matter to what is left of a domain whose key is freed
+-- ---- whom a call is on: D, or F where it takes no D, or no one domain; two calls matter to what is left of a domain whose key is freed
 
 pub data Role : Type 0 where
   on : Hpa → Role
   frees : Hpa → Role
   reclaims : Hpa → Role
+  each : Role
 
 unfoldable pub roleOf : Call → Role
 roleOf (Call.KeyFree d) = frees d
@@ -47,6 +48,7 @@ roleOf (Call.SeptRemove d gpa level) = on d
 roleOf (Call.FlushDone d) = on d
 roleOf (Call.ReadPage f) = on f
 roleOf (Call.ReadEntry d gpa level) = on d
+roleOf (Call.CacheWb) = each
 
 -- "on one domain": its TDR's frame. A reclaim of a TDR is on that domain, and of another frame on its owner
 unfoldable pub subject : Hpa → Tables → Role → Place
@@ -54,6 +56,7 @@ subject base t (on d) = placeIn base t d
 subject base t (frees d) = placeIn base t d
 subject base t (reclaims f) = onPlace (placeIn base t f) Outside λ n.
     At (frame (choose (eqb (kind (view t) (n .0)) TDR) (n .0) (owner (view t) (n .0))))
+subject base t each = Outside
 
 -- "those it had at that moment less those reclaimed since": a list for each domain. An accepted keyfree notes what the domain has, and an
 -- accepted reclaim strikes its frame out
@@ -67,6 +70,7 @@ unfoldable pub left : Hpa → Tables → Role → Lists → Lists
 left base t (on d) l = l
 left base t (frees d) l = onPlace (placeIn base t d) l λ n. noted l (n .0) (foundIn t (n .0))
 left base t (reclaims f) l = onPlace (placeIn base t f) l λ n e. without (n .0) (l e)
+left base t each l = l
 
 -- ---- "After any calls from a fresh start"
 
@@ -91,11 +95,14 @@ pub record Demand3 (base : Hpa) (t : Tables) (l : Lists) : Type 0 where
   pub keyed : (d : ℕ) → Keyed (view t) d → Owns (view t) d (foundIn t d)
   -- once its key is freed, they are those it had at that moment less those reclaimed since
   pub freed : (d : ℕ) → kind (view t) d ≡ TDR → life (view t) (number (view t) d) ≡ TEARDOWN → Owns (view t) d (l d)
-  -- an accepted call on one domain leaves every other domain's record, control pages, frames and tree alone. (A call that may touch several
-  -- domains' records will be excepted here.)
-  pub alone : (g : Gauge) (c : Call) → Accepted (callOf base t g c) → (e : ℕ) → kind (view t) e ≡ TDR
+  -- an accepted call on one domain leaves every other domain's record, control pages, frames and tree alone ..
+  pub alone : (g : Gauge) (c : Call) → (c ≡ Call.CacheWb → ⊥) → Accepted (callOf base t g c) → (e : ℕ) → kind (view t) e ≡ TDR
       → (subject base t (roleOf c) ≡ At (frame e) → ⊥)
       → Untouched (extent t) (view t) (view (callOf base t g c .tables)) e
+  -- .. "cachewb is the one call that may touch several domains' records; the third demand's last sentence excepts it": it leaves all of every
+  -- domain alone but the lifecycle, which moves from blocked to blocked and written back, and from nothing else
+  pub together : (g : Gauge) → Accepted (callOf base t g Call.CacheWb) → (e : ℕ) → kind (view t) e ≡ TDR
+      → WrittenBack (extent t) (view t) (view (callOf base t g Call.CacheWb .tables)) e
   -- no call is answered 14; none is answered 13 whose gauge has its marks in rule; and no setting of the marks is
   pub never14 : (g : Gauge) (c : Call) → numberOf (callOf base t g c .answer) ≡ 14 → ⊥
   pub never13 : (g : Gauge) (c : Call) → marksOk (g .raise) (g .clear) (length (t .frames)) ≡ true → numberOf (callOf base t g c .answer) ≡ 13 → ⊥

@@ -5,4 +5,4 @@ use Rattle.fact_cases.proofs.Open.{call-open, line-open}
 
 pub lines-read : AllRead lines
 unfolding AllRead lines call-open line-open
-lines-read = (refl, (refl, (refl, (refl, (refl, (refl, (refl, (refl, (refl, (refl, (refl, (refl, (refl, tt)))))))))))))
+lines-read = (refl, (refl, (refl, (refl, (refl, (refl, (refl, (refl, (refl, (refl, (refl, (refl, (refl, (refl, tt))))))))))))))

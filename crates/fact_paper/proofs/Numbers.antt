@@ -19,7 +19,7 @@ unfolding asked each every rootTables holds same run call-open
 asked-right = all-right asked refl
 
 pub packed : Packed
-packed = record { frame = refl; domain = refl; entry = refl; lives = (refl, (refl, (refl, refl))); ops = (refl, (refl, refl)) }
+packed = record { frame = refl; domain = refl; entry = refl; lives = (refl, (refl, (refl, (refl, refl)))); ops = (refl, (refl, refl)) }
 
 pub limits : Limits
 unfolding framesOk baseOk between ones choose

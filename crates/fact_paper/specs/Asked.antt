@@ -18,7 +18,7 @@ every before [] n = []
 every before (c ∷ cs) n = case before c (no n) ∷ every before cs n
 
 -- ---- 2, 3, 4, 5: what is asked of D, by every call on a domain. The states of D on its way: none yet, HKID assigned, keys configured with one control page,
--- with four, initialized, runnable, blocked, in teardown
+-- with four, initialized, runnable, blocked, blocked and written back (request 5), in teardown
 abbrev pub created : List Call
 created = line-1 ∷ []
 
@@ -34,11 +34,14 @@ initialized = built ++ (Call.Init D ∷ [])
 abbrev pub runnable : List Call
 runnable = initialized ++ (Call.Finalize D ∷ [])
 
-abbrev flushed : List Call
+abbrev pub flushed : List Call
 flushed = configured ++ (Call.FlushDone D ∷ [])
 
+abbrev written : List Call
+written = flushed ++ (Call.CacheWb ∷ [])
+
 abbrev pub dead : List Call
-dead = flushed ++ (Call.KeyFree D ∷ [])
+dead = written ++ (Call.KeyFree D ∷ [])
 
 -- the calls on a domain's record; and those on its tree, with operands that fit
 abbrev pub records : Hpa → List Call
@@ -65,8 +68,9 @@ ofRecords =
     ++ (each built (records D) (3 ∷ 4 ∷ 0 ∷ 5 ∷ 5 ∷ 0 ∷ 3 ∷ 3 ∷ [])
     ++ (each initialized (records D) (3 ∷ 4 ∷ 5 ∷ 0 ∷ 0 ∷ 0 ∷ 3 ∷ 3 ∷ [])
     ++ (each runnable (records D) (3 ∷ 4 ∷ 5 ∷ 5 ∷ 0 ∷ 0 ∷ 3 ∷ 3 ∷ [])
-    ++ (each flushed (records D) (3 ∷ 3 ∷ 3 ∷ 3 ∷ 3 ∷ 3 ∷ 0 ∷ 3 ∷ [])
-    ++ each dead (records D) (3 ∷ 3 ∷ 3 ∷ 3 ∷ 3 ∷ 3 ∷ 3 ∷ 9 ∷ [])))))))
+    ++ (each flushed (records D) (3 ∷ 3 ∷ 3 ∷ 3 ∷ 3 ∷ 3 ∷ 3 ∷ 3 ∷ [])
+    ++ (each written (records D) (3 ∷ 3 ∷ 3 ∷ 3 ∷ 3 ∷ 3 ∷ 0 ∷ 3 ∷ [])
+    ++ each dead (records D) (3 ∷ 3 ∷ 3 ∷ 3 ∷ 3 ∷ 3 ∷ 3 ∷ 9 ∷ []))))))))
 
 -- .. and the calls on its tree: 2, 3, 4 and 5 alike, before any looks at the tree. A control page is no D either
 abbrev pub ofTrees : List Case
@@ -76,9 +80,10 @@ ofTrees =
     ++ (each configured (records (frame 1)) (2 ∷ 2 ∷ 2 ∷ 2 ∷ 2 ∷ 2 ∷ 2 ∷ 3 ∷ [])
     ++ (every created (trees D) 3
     ++ (every flushed (trees D) 3
+    ++ (every written (trees D) 3
     ++ (every dead (trees D) 3
     ++ (every configured (trees D) 4
-    ++ every built (trees D) 5))))))
+    ++ every built (trees D) 5)))))))
 
 -- pageadd wants initialized, pageaug runnable; the others take either
 abbrev pub ops : List Case
@@ -127,7 +132,7 @@ operands =
     ∷ Call.ReadPage outside
     ∷ []) 1)))))))))
 
--- ---- F's 2; 10: a key is free once its domain is in teardown; 11: no unused record, no unused table, where the last one was taken; 2 and 9: reclaim of a
+-- ---- F's 2; 10: a key is free once its domain is in teardown, and no sooner; 11: no unused record, no unused table, where the last one was taken; 2 and 9: reclaim of a
 -- frame wants some use, of a TDR no children
 abbrev three : List Call
 three = Call.Create (frame 0) 32 ∷ Call.Create (frame 1) 33 ∷ Call.Create (frame 2) 34 ∷ []
@@ -144,12 +149,14 @@ frames =
     ∷ case initialized (Call.PageAdd D (gpa 0) (frame 1)) (no 2)
     ∷ case runnable (Call.PageAug D (gpa 0) (frame 1)) (no 2)
     ∷ case flushed (Call.Create (frame 9) 32) (no 10)
+    ∷ case written (Call.Create (frame 9) 32) (no 10)
     ∷ case dead (Call.Create (frame 9) 32) (no 0)
     ∷ case three (Call.Create (frame 3) 35) (no 0)
     ∷ case (three ++ (Call.Create (frame 3) 35 ∷ [])) (Call.Create (frame 4) 36) (no 11)
     ∷ case (initialized ++ rootTables 11) (Call.SeptAdd D (gpa (2 ^ 39 * 11)) 3 (frame 20)) (no 0)
     ∷ case (initialized ++ rootTables 12) (Call.SeptAdd D (gpa (2 ^ 39 * 12)) 3 (frame 21)) (no 11)
     ∷ case configured (Call.Reclaim (frame 1)) (no 3)
+    ∷ case written (Call.Reclaim (frame 1)) (no 3)
     ∷ case dead (Call.Reclaim (frame 1)) (no 0)
     ∷ case (dead ++ (Call.Reclaim (frame 1) ∷ [])) (Call.Reclaim D) (no 0)
     ∷ case dead (Call.Reclaim (frame 2)) (no 2)
@@ -210,5 +217,36 @@ epochs =
     ∷ case (tracked ++ (Call.Finalize D ∷ Call.Track D ∷ [])) (Call.PageRemove D (gpa 0)) (no 0)
     ∷ []
 
+-- ---- request 5: "every domain in blocked becomes blocked and written back", and no other. E is a second domain
+abbrev E : Hpa
+E = frame 9
+
+abbrev two : List Call
+two = configured ++ (Call.Create E 33 ∷ [])
+
+-- one blocked before the cachewb and one after it; both before it; and the last of four records
+abbrev apart : List Call
+apart = two ++ (Call.FlushDone D ∷ Call.CacheWb ∷ Call.FlushDone E ∷ [])
+
+abbrev both : List Call
+both = two ++ (Call.FlushDone D ∷ Call.FlushDone E ∷ Call.CacheWb ∷ [])
+
+abbrev fourth : List Call
+fourth = three ++ (Call.Create (frame 3) 35 ∷ Call.FlushDone (frame 3) ∷ Call.CacheWb ∷ [])
+
+abbrev pub sweeps : List Case
+sweeps =
+    every [] (Call.CacheWb ∷ []) 0
+    ++ (every flushed (Call.CacheWb ∷ []) 0
+    ++ (every written (Call.CacheWb ∷ []) 0
+    ++ (each apart (Call.KeyFree D ∷ Call.KeyFree E ∷ []) (0 ∷ 3 ∷ [])
+    ++ (every (apart ++ (Call.CacheWb ∷ [])) (Call.KeyFree D ∷ Call.KeyFree E ∷ []) 0
+    ++ (every both (Call.KeyFree D ∷ Call.KeyFree E ∷ []) 0
+    ++ (every fourth (Call.KeyFree (frame 3) ∷ []) 0
+    ++ (every (created ++ (Call.CacheWb ∷ [])) (Call.KeyConfig D ∷ Call.FlushDone D ∷ []) 0
+    ++ (every (created ++ (Call.CacheWb ∷ Call.FlushDone D ∷ [])) (Call.KeyFree D ∷ []) 3
+    ++ (every (initialized ++ (Call.CacheWb ∷ [])) (Call.Finalize D ∷ []) 0
+    ++ every (dead ++ (Call.CacheWb ∷ [])) (Call.Reclaim (frame 1) ∷ Call.Create E 32 ∷ []) 0)))))))))
+
 unfoldable pub asked : List Case
-asked = ofRecords ++ (ofTrees ++ (ops ++ (operands ++ (frames ++ (entries ++ epochs)))))
+asked = ofRecords ++ (ofTrees ++ (ops ++ (operands ++ (frames ++ (entries ++ (epochs ++ sweeps))))))

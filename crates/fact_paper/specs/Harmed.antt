@@ -1,15 +1,15 @@
--- Answers 12 and 14, and 8 at a frame's epoch above the domain's, met in cases too. No case from a fresh start meets them: 14 never follows from there, nor
--- such an epoch, and 12 only after 2^32 - 2 tracks. So the tables of a run are harmed by one word, as lent tables may be, and the call's own rule is asked
+-- Answers 12 and 14, 8 at a frame's epoch above the domain's, and a cachewb on records that no TDR names or that aren't in use, met in cases too. No case from a
+-- fresh start meets them: 14 never follows from there, nor such an epoch or record, and 12 only after 2^32 - 2 tracks. So the tables of a run are harmed by one word, as lent tables may be, and the call's own rule is asked
 -- (answer 13 comes before it).
 use Rattle.base_rules.specs.Basics.{ℕ, _^_, _-_, _≡_, List, [], _∷_, _++_}
 use Rattle.book_gauge.specs.declared.Gauge.{Gauge}
-use Rattle.book_ledger.specs.Codes.{TDCX, EPT, REG, CONFIGURED, TEARDOWN, UNINITIALIZED, INITIALIZED, RUNNABLE}
+use Rattle.book_ledger.specs.Codes.{NDA, TDR, TDCX, EPT, REG, CONFIGURED, TEARDOWN, UNINITIALIZED, INITIALIZED, RUNNABLE}
 use Rattle.book_ledger.specs.{Tables.Tables, Tables.lent, Tables.setFrame, Tables.setDomain, declared.words.Domain.Domain}
 use Rattle.base_calls.specs.{Answers.numberOf, declared.Call.Call}
 use Rattle.call_host.specs.Calls.{ruleOf}
 use Rattle.fact_cases.specs.Cases.{base, freshTables, run, gpa, D, mapped, blocked, tracked}
 use Rattle.fact_paper.specs.Numbers.{frame, pending}
-use Rattle.fact_paper.specs.Asked.{created, configured, initialized, runnable, dead, again, shut, records, trees}
+use Rattle.fact_paper.specs.Asked.{created, configured, initialized, runnable, flushed, dead, again, shut, records, trees}
 
 -- tables, a call on them, and the number of its answer
 pub record OnTables : Type 0 where
@@ -93,7 +93,7 @@ counts =
 
 -- ---- "at reclaim an owner isn't a TDR, a TDR's record or such an EPT's table is unused"
 abbrev down : List Call
-down = blocked ++ (Call.FlushDone D ∷ Call.KeyFree D ∷ [])
+down = blocked ++ (Call.FlushDone D ∷ Call.CacheWb ∷ Call.KeyFree D ∷ [])
 
 abbrev pub reclaimed : List OnTables
 reclaimed =
@@ -114,5 +114,14 @@ ahead = mapped ++ (Call.Finalize D ∷ Call.Track D ∷ Call.Block D (gpa 0) 0 �
 abbrev pub above : List OnTables
 above = eachSays (domainIs (domain CONFIGURED RUNNABLE 4 8 1) (after ahead)) (Call.Unblock D (gpa 0) 0 ∷ Call.PageRemove D (gpa 0) ∷ []) 8
 
+-- ---- request 5: "every domain" is every record in use. The frame that names D's record is free at the cachewb, or the record isn't in use; then all is put back
+abbrev swept : Tables → Tables
+swept t = run t (Call.CacheWb ∷ [])
+
+abbrev pub records′ : List OnTables
+records′ =
+    eachSays (frameIs 0 TDR 0 (swept (frameIs 0 NDA 0 (after flushed)))) (Call.KeyFree D ∷ []) 0
+    ++ eachSays (stockIs (2 ^ 12) (swept (stockIs 0 (after flushed)))) (Call.KeyFree D ∷ []) 3
+
 unfoldable pub harmed : List OnTables
-harmed = unrecorded ++ (followed ++ (held ++ (counts ++ (reclaimed ++ (late ++ above)))))
+harmed = unrecorded ++ (followed ++ (held ++ (counts ++ (reclaimed ++ (late ++ (above ++ records′))))))

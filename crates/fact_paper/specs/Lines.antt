@@ -1,4 +1,5 @@
--- Document 01, "The script": the line of each call that the whole run leaves out, its operands numbered by their place, and what it is read as.
+-- Document 01, "The script": the line of each call that the whole run leaves out, its operands numbered by their place, and what it is read as. Request 5's
+-- is the name alone.
 use Rattle.base_rules.specs.Basics.{_≡_, List, [], _∷_}
 use Prim.Native.String.{String}
 use Rattle.base_calls.specs.declared.Call.{Call}
@@ -31,4 +32,5 @@ lines =
     ∷ spelt "keyfree\thpa\t0" (Call.KeyFree (hpa 0))
     ∷ spelt "reclaim\thpa\t0" (Call.Reclaim (hpa 0))
     ∷ spelt "readentry\thpa\t0\tgpa\t1\tlevel\t2" (Call.ReadEntry (hpa 0) (gpa 1) 2)
+    ∷ spelt "cachewb" Call.CacheWb
     ∷ []

@@ -4,7 +4,7 @@ use Rattle.base_rules.specs.Basics.{ℕ, _+_, _-_, _*_, _^_, _≡_, Bool, true,
 use Rattle.base_units.specs.Limits.{framesOk, recordsOk, tablesOk, epochOk, baseOk}
 use Rattle.base_units.specs.declared.address.{Hpa.Hpa}
 use Rattle.book_gauge.specs.{Fill.ratio, Marks.marksOk, Update.lampAfter}
-use Rattle.book_ledger.specs.Codes.{ASSIGNED, CONFIGURED, BLOCKED-LIFE, TEARDOWN, UNINITIALIZED, INITIALIZED, RUNNABLE}
+use Rattle.book_ledger.specs.Codes.{ASSIGNED, CONFIGURED, BLOCKED-LIFE, TEARDOWN, WRITTEN-BACK, UNINITIALIZED, INITIALIZED, RUNNABLE}
 use Rattle.book_ledger.specs.{Tables.frameAt, Tables.domainAt, Tables.pageAt, Words.frameFrom, Words.domainFrom, Words.entryFrom}
 use Rattle.base_calls.specs.declared.{Call.Call, Values.Values}
 use Rattle.fact_cases.specs.Cases.{freshTables, run, Case, hpa, gpa, no, page, case, D, line-1, blocked}
@@ -92,7 +92,7 @@ pub record Packed : Type 0 where
   pub domain : domainFrom (33 + 2 ^ 7 * 3 + 2 ^ 10 * 2 + 2 ^ 12 * 4 + 2 ^ 15 * 6 + 2 ^ 30 * 5 + 2 ^ 62)
       ≡ record { key = 33; life = 3; op = 2; listed = 4; children = 6; epoch = 5; width = 1 }
   pub entry : entryFrom (5 + 2 ^ 3 * 9) ≡ record { state = 5; frame = record { 0 = 9 } }
-  pub lives : (ASSIGNED ≡ 0) × ((CONFIGURED ≡ 1) × ((BLOCKED-LIFE ≡ 2) × (TEARDOWN ≡ 3)))
+  pub lives : (ASSIGNED ≡ 0) × ((CONFIGURED ≡ 1) × ((BLOCKED-LIFE ≡ 2) × ((TEARDOWN ≡ 3) × (WRITTEN-BACK ≡ 4))))
   pub ops : (UNINITIALIZED ≡ 0) × ((INITIALIZED ≡ 1) × (RUNNABLE ≡ 2))
 
 -- ---- "the lowest unused number is taken": three tables and the record of `blocked` in use, its record's words, and the frames that it has

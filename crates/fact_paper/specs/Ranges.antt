@@ -63,13 +63,13 @@ abbrev pub bare : ℕ → List ℕ
 bare w = w ∷ 0 ∷ 0 ∷ 0 ∷ 0 ∷ []
 
 abbrev pub rightRecords : List (List ℕ)
-rightRecords = bare (scalars 32 0 0 0 0 1 0) ∷ (scalars 95 3 2 4 1024 (2 ^ 32 - 1) 0 ∷ 1023 ∷ 0 ∷ 5 ∷ 7 ∷ []) ∷ []
+rightRecords = bare (scalars 32 0 0 0 0 1 0) ∷ (scalars 95 4 2 4 1024 (2 ^ 32 - 1) 0 ∷ 1023 ∷ 0 ∷ 5 ∷ 7 ∷ []) ∷ []
 
 abbrev pub wrongRecords : List (List ℕ)
 wrongRecords =
     bare (scalars 31 0 0 0 0 1 0)
     ∷ bare (scalars 96 0 0 0 0 1 0)
-    ∷ bare (scalars 32 4 0 0 0 1 0)
+    ∷ bare (scalars 32 5 0 0 0 1 0)
     ∷ bare (scalars 32 0 3 0 0 1 0)
     ∷ bare (scalars 32 0 0 5 0 1 0)
     ∷ bare (scalars 32 0 0 0 1025 1 0)

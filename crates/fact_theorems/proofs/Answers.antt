@@ -6,7 +6,7 @@ use Rattle.book_gauge.specs.declared.Gauge.{Gauge}
 use Rattle.book_range.specs.Range.{lentOk}
 use Rattle.base_calls.specs.Answers.{valuesOf, numberOf}
 use Rattle.base_calls.specs.declared.{Answer.Answer, Ask.Ask, Answer.the-variants.No, Call.Call}
-use Rattle.call_plan.specs.declared.edit.Plan.{Plan, the-variants.Say, the-variants.Do}
+use Rattle.call_plan.specs.declared.edit.Plan.{Plan, the-variants.Say, the-variants.Do, the-variants.Each}
 use Rattle.call_carry.specs.Carry.{carried}
 use Rattle.book_ledger.specs.Codes.{NDA, TDR, TDCX, NL-MAPPED, MAPPED, PENDING, NL-BLOCKED, BLOCKED, PENDING-BLOCKED}
 use Rattle.book_ledger.specs.{Tables.Tables, declared.words.Entry.Entry}
@@ -27,7 +27,7 @@ use Rattle.fact_theorems.specs.Order.{Reason, tables, marks, operand, em
 use Rattle.fact_theorems.specs.Order.{later, Passes, none, one}
 use Rattle.fact_theorems.proofs.Firsts.{numberP, row, Tells, TellsP, Numbers, no, window-first, none-besides, frame-besides, parties-first, built-first}
 use Rattle.fact_theorems.proofs.Firsts.{spot-first, owner-first, offered-first, reach-first, tracked-first, walk-first, stock-first, child-first}
-use Rattle.fact_theorems.proofs.Firsts.{needed, unless, either, done, read}
+use Rattle.fact_theorems.proofs.Firsts.{needed, unless, either, done, swept, read}
 
 -- by whether two numbers are equal
 pub choose-eq : {A : Type 0} (P : A → Type 0) (a b : ℕ) {x y : A} → (a ≡ b → P x) → ((a ≡ b → ⊥) → P y) → P (choose (eqb a b) x y)
@@ -47,23 +47,23 @@ unblocked-code s h =
     choose-eq P s NL-BLOCKED (λ e. omega arith) λ n. choose-eq P s BLOCKED (λ e. omega arith) λ m. omega arith
 
 -- types 0 and 1 have no owner, the others do; a FREE entry leads nowhere
-page-said : (k : ℕ) (nil o : Hpa) {s : View}
-    → Numbers (row true s s (Answer.Page k (choose (eqb k NDA) nil (choose (eqb k TDR) nil o))))
+page-said : (k : ℕ) (nil o : Hpa) {t : Tables}
+    → Numbers (row true t (view t) (Answer.Page k (choose (eqb k NDA) nil (choose (eqb k TDR) nil o))))
     (choose (ltb k TDCX) (Say (Answer.Page k nil)) (Say (Answer.Page k o))) []
 unfolding choose valuesOf Tells
-page-said k nil o {s} =
-    let P : Hpa → Type 0 = λ h. Numbers (row true s s (Answer.Page k h)) (choose (ltb k TDCX) (Say (Answer.Page k nil)) (Say (Answer.Page k o))) [] in
+page-said k nil o {t} =
+    let P : Hpa → Type 0 = λ h. Numbers (row true t (view t) (Answer.Page k h)) (choose (ltb k TDCX) (Say (Answer.Page k nil)) (Say (Answer.Page k o))) [] in
     choose-eq P k NDA (λ e. rw (lt-ltb k TDCX (omega arith)) (read _ refl refl)) λ n.
     choose-eq P k TDR (λ e. rw (lt-ltb k TDCX (omega arith)) (read _ refl refl)) λ m. rw (le-ltb k TDCX (omega arith)) (read _ refl refl)
 
-entry-said : (level state : ℕ) (b : Bool) (h k : Hpa) {s : View}
-    → Numbers (row true s s (Answer.Entry level state (choose b h k))) (choose b (Say (Answer.Entry level state h)) (Say (Answer.Entry level state k))) []
+entry-said : (level state : ℕ) (b : Bool) (h k : Hpa) {t : Tables}
+    → Numbers (row true t (view t) (Answer.Entry level state (choose b h k))) (choose b (Say (Answer.Entry level state h)) (Say (Answer.Entry level state k))) []
 unfolding choose valuesOf Tells
 entry-said level state true h k = read _ refl refl
 entry-said level state false h k = read _ refl refl
 
 -- a call's plan answers with the number of its first check that fails, and where it accepts it does and answers as its row says
-pub plan-first : (base : Hpa) (t : Tables) (c : Call) → Numbers (row (reads c) (view t) (effectOf base t c) (acceptedOf base t c)) (planOf base t c)
+pub plan-first : (base : Hpa) (t : Tables) (c : Call) → Numbers (row (reads c) t (effectOf base t c) (acceptedOf base t c)) (planOf base t c)
     (checksOf base t c)
 unfolding given ownerOf leadsTo planOf reads checksOf effectOf acceptedOf newFrame newDomain newPage newEntry newUse wipedDomain wipedPage wipedEntry
     createPlan createAt newRecord lifePlan opPlan addcxPlan enlistAt gain septaddPlan freeFor addTableAt pagePlan addPageAt blockPlan blockAt
@@ -96,6 +96,7 @@ plan-first base t (Call.Reclaim f) = window-first _ _ _ _ _ (unless _ _ (either 
 plan-first base t (Call.ReadPage f) = window-first _ _ _ _ _ (page-said _ _ _)
 plan-first base t (Call.ReadEntry d gpa level) =
     spot-first _ _ _ _ _ _ _ _ _ none-besides (walk-first (λ p. p) _ _ _ _ (λ _ _. refl) refl (entry-said level _ _ _ _))
+plan-first base t (Call.CacheWb) = swept refl refl
 
 -- A refusal leaves tables and gauge as they were.
 pub record Kept (t : Tables) (g : Gauge) (o : Outcome) : Type 0 where
@@ -118,10 +119,11 @@ module _ {t : Tables} {g : Gauge} {r : Bool} where
   else-no w true e = record { is = e .is; same = e .same; tells = e .tells }
   else-no w false e = record { is = refl; same = record { kept = λ _. (refl, refl) }; tells = tt }
 
-  by-plan : {s v : View} {a : Answer} {cs : List Check} (p : Plan) → Numbers (row r s v a) p cs → Settles t g r (settled g (carried t p)) cs
+  by-plan : {s : Tables} {v : View} {a : Answer} {cs : List Check} (p : Plan) → Numbers (row r s v a) p cs → Settles t g r (settled g (carried t p)) cs
   unfolding numberP TellsP Tells settled carried gaugeAfter given choose valuesOf
   by-plan (Say a) e = record { is = e .is; same = record { kept = λ n. (refl, rw (ne-eqb (numberOf a) 0 n)) }; tells = e .tells }
   by-plan (Do d) e = record { is = e .is; same = record { kept = λ n. absurd (n refl) }; tells = tt }
+  by-plan (Each w) e = record { is = e .is; same = record { kept = λ n. absurd (n refl) }; tells = tt }
 
 pub settles : (base : Hpa) (t : Tables) (g : Gauge) (a : Ask) → Settles t g (readsOut a) (askOf base t g a) (askChecks base t g a)
 unfolding askOf askChecks readsOut callOf ruleOf marksOf resetOf given choose
@@ -185,6 +187,7 @@ ordered base t g (Call.KeyFree d) = refl
 ordered base t g (Call.Reclaim f) = choose-both (λ (cs : List Check). inOrder 3 cs ≡ true) (kindIs t (window base t f) TDR) _ _ (λ _. refl) λ _. refl
 ordered base t g (Call.ReadPage f) = refl
 ordered base t g (Call.ReadEntry d gpa level) = refl
+ordered base t g (Call.CacheWb) = refl
 
 -- readpage refuses only with 13 or 1.
 pub readpage-refuses : (base : Hpa) (t : Tables) (g : Gauge) (f : Hpa) → let n = numberOf (callOf base t g (Call.ReadPage f) .answer) in
@@ -194,3 +197,10 @@ readpage-refuses base t g f =
     let P : ℕ → Type 0 = λ n. (n ≡ 0) ⊎ ((n ≡ 1) ⊎ (n ≡ 13)) in
     let tail = choose-both P _ _ _ (λ _. inl refl) λ _. inr (inl refl) in
     rw (answered base t g (Call.ReadPage f)) (choose-both P _ _ _ (λ _. choose-both P _ _ _ (λ _. tail) λ _. inr (inr refl)) λ _. inr (inr refl))
+
+-- cachewb refuses only with 13, whatever its neighbours are in.
+pub cachewb-refuses : (base : Hpa) (t : Tables) (g : Gauge) → let n = numberOf (callOf base t g Call.CacheWb .answer) in (n ≡ 0) ⊎ (n ≡ 13)
+unfolding checksOf firstNo
+cachewb-refuses base t g =
+    let P : ℕ → Type 0 = λ n. (n ≡ 0) ⊎ (n ≡ 13) in
+    rw (answered base t g Call.CacheWb) (choose-both P _ _ _ (λ _. choose-both P _ _ _ (λ _. inl refl) λ _. inr refl) λ _. inr refl)

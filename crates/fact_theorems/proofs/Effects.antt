@@ -9,7 +9,7 @@ use Rattle.call_plan.specs.declared.edit.Plan.{Plan}
 use Rattle.call_carry.specs.Carry.{carried}
 use Rattle.call_host.specs.Calls.{Outcome, settled, ruleOf, callOf}
 use Rattle.fact_keeps.specs.Views.{View, view}
-use Rattle.fact_keeps.proofs.{Stores.after, Ranges.lent-of, Plans.Keep, Plans.says, Plans.does, Plans.plan-keeps}
+use Rattle.fact_keeps.proofs.{Stores.after, Ranges.lent-of, Plans.Keep, Plans.says, Plans.does, Plans.sweeps, Plans.plan-keeps}
 use Rattle.fact_theorems.specs.Effects.{effectOf, acceptedOf}
 use Rattle.fact_theorems.proofs.{Firsts.row, Firsts.Does, Answers.plan-first, Answers.by-call}
 
@@ -21,13 +21,16 @@ pub record Alike (s v : View) : Type 0 where
   pub entries : (b i : ℕ) → s .entry b i ≡ v .entry b i
   pub uses : (b : ℕ) → s .used b ≡ v .used b
 
-by-plan : (base : Hpa) (t : Tables) (r : Bool) (v : View) (y : Answer) {p : Plan} → Keep base t p → Does (row r (view t) v y) p
+by-plan : (base : Hpa) (t : Tables) (r : Bool) (v : View) (y : Answer) {p : Plan} → Keep base t p → Does (row r t v y) p
     → numberOf (carried t p .answer) ≡ 0 → Alike (view (carried t p .tables)) v × (carried t p .answer ≡ y)
 unfolding carried Does
 by-plan base t r v y says d z =
     (subst (Alike _) (d z .0) (record { frames = λ _. refl; domains = λ _. refl; controls = λ _ _. refl; entries = λ _ _. refl; uses = λ _. refl }), d z .1)
 by-plan base t r v y (does {e} k) d z =
     let a = after t e (k .within) in
+    (subst (Alike _) (d .0) (record { frames = a .frames; domains = a .domains; controls = a .controls; entries = a .entries; uses = a .uses }), d .1)
+by-plan base t r v y (sweeps k) d z =
+    let a = k .after in
     (subst (Alike _) (d .0) (record { frames = a .frames; domains = a .domains; controls = a .controls; entries = a .entries; uses = a .uses }), d .1)
 
 module _ (base : Hpa) (t : Tables) (g : Gauge) (c : Call) where

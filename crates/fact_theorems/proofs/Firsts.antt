@@ -8,14 +8,15 @@ use Rattle.book_stock.specs.{Bits.inUse, Bits.onLowest, declared.bits.Lowest.Lo
 use Rattle.book_ledger.specs.{Codes.TDR, Tables.Tables, declared.words.Entry.Entry}
 use Rattle.book_walk.specs.{Walk.onWalk, declared.Walk.Walk}
 use Rattle.base_calls.specs.{Answers.valuesOf, Answers.numberOf, declared.Answer.Answer}
-use Rattle.call_plan.specs.Lookup.{onPlace, onOperand, onLookup, onParties, frameOperand, noFrame, domainFor, partiesFor, builtFor, spotOperand, spotFor}
+use Rattle.call_plan.specs.Lookup.{bitIn, onPlace, onOperand, onLookup, onParties, frameOperand, noFrame, domainFor, partiesFor, builtFor, spotOperand, spotFor}
 use Rattle.call_plan.specs.{Entries.walkOf, Entries.entryFor, Entries.onReach, Entries.isTracked, Changes.refuse}
 use Rattle.call_plan.specs.declared.{lookup.Operand.Operand, lookup.Operand.the-variants.Frame, lookup.Operand.the-variants.Bad, lookup.Subject.Subject}
 use Rattle.call_plan.specs.declared.{lookup.Lookup.Lookup, lookup.Lookup.the-variants.Not, lookup.Parties.Parties, entry.Reach.Reach, edit.Edit.Edit}
-use Rattle.call_plan.specs.declared.{edit.Plan.Plan, edit.Plan.the-variants.Say, edit.Plan.the-variants.Do}
+use Rattle.call_plan.specs.declared.{edit.Sweep.Sweep, edit.Plan.Plan, edit.Plan.the-variants.Say, edit.Plan.the-variants.Do, edit.Plan.the-variants.Each}
 use Rattle.call_trees.specs.Trees.{trackedFor}
-use Rattle.fact_keeps.specs.Views.{View}
+use Rattle.fact_keeps.specs.Views.{View, view}
 use Rattle.fact_keeps.proofs.Stores.{newFrame, newDomain, newPage, newEntry, newUse, wipedDomain, wipedPage, wipedEntry}
+use Rattle.fact_keeps.proofs.Sweeps.{sweptDomain}
 use Rattle.fact_theorems.specs.Order.{Reason, tables, marks, operand, domain, record′, lifecycle, pages, opState, offered, key, stopped, foreign, entry}
 use Rattle.fact_theorems.specs.Order.{untracked, emptied, remain, stock, epoch, frame, count, unreadable, number, place, Check, check, firstNo}
 use Rattle.fact_theorems.specs.Checks.{inWindow, named, recordOf, window, inside, domainAtHpa, kindIs, goesOn, follows, arrived, block, index, theOne}
@@ -25,6 +26,7 @@ use Rattle.fact_theorems.specs.Checks.{spot, isDomain, built, walked, on
 unfoldable pub numberP : Plan → ℕ
 numberP (Say a) = numberOf a
 numberP (Do e) = 0
+numberP (Each w) = 0
 
 -- what a plan reads out: level and state at 6 and 7 alone, a page or an entry only where the call reads
 unfoldable pub Tells : Bool → Answer → Type 0
@@ -37,6 +39,7 @@ Tells reads (Answer.Entry l s h) = reads ≡ true
 unfoldable pub TellsP : Bool → Plan → Type 0
 TellsP reads (Say a) = Tells reads a
 TellsP reads (Do e) = Unit
+TellsP reads (Each w) = Unit
 
 -- the view after an edit
 abbrev pub edited : Edit → View → View
@@ -48,20 +51,31 @@ edited e s = record {
   used = newUse (e .stock) (s .used);
 }
 
+-- .. and after a sweep
+abbrev sweptView : Sweep → Tables → View
+sweptView w t = record {
+  frame = view t .frame;
+  domain = λ r. sweptDomain w (view t .used (bitIn t r)) (view t .domain r);
+  control = view t .control;
+  entry = view t .entry;
+  used = view t .used;
+}
+
 -- of a call's row: whether it reads, the tables before it, its effect, and the answer where it is accepted
 pub record Row : Type 0 where
   pub reads : Bool
-  pub before : View
+  pub before : Tables
   pub effect : View
   pub answer : Answer
 
-abbrev pub row : Bool → View → View → Answer → Row
-row r s v a = record { reads = r; before = s; effect = v; answer = a }
+abbrev pub row : Bool → Tables → View → Answer → Row
+row r t v a = record { reads = r; before = t; effect = v; answer = a }
 
 -- a plan that accepts does the row's effect, and answers as the row says
 unfoldable pub Does : Row → Plan → Type 0
-Does r (Say a) = numberOf a ≡ 0 → (r .before ≡ r .effect) × (a ≡ r .answer)
-Does r (Do e) = (edited e (r .before) ≡ r .effect) × (Answer.Done ≡ r .answer)
+Does r (Say a) = numberOf a ≡ 0 → (view (r .before) ≡ r .effect) × (a ≡ r .answer)
+Does r (Do e) = (edited e (view (r .before)) ≡ r .effect) × (Answer.Done ≡ r .answer)
+Does r (Each w) = (sweptView w (r .before) ≡ r .effect) × (Answer.Done ≡ r .answer)
 
 -- a plan's number is that of the first check that fails, it reads out what it may, and it does the row's effect
 pub record Numbers (r : Row) (p : Plan) (cs : List Check) : Type 0 where
@@ -93,11 +107,15 @@ numbered frame = omega arith
 numbered count = omega arith
 numbered unreadable = omega arith
 
-pub done : {r : Row} {e : Edit} → edited e (r .before) ≡ r .effect → Answer.Done ≡ r .answer → Numbers r (Do e) []
+pub done : {r : Row} {e : Edit} → edited e (view (r .before)) ≡ r .effect → Answer.Done ≡ r .answer → Numbers r (Do e) []
 unfolding numberP firstNo TellsP Does
 done q a = record { is = refl; tells = tt; does = (q, a) }
 
-pub read : {s : View} (a : Answer) → numberOf a ≡ 0 → Tells true a → Numbers (row true s s a) (Say a) []
+pub swept : {r : Row} {w : Sweep} → sweptView w (r .before) ≡ r .effect → Answer.Done ≡ r .answer → Numbers r (Each w) []
+unfolding numberP firstNo TellsP Does
+swept q a = record { is = refl; tells = tt; does = (q, a) }
+
+pub read : {t : Tables} (a : Answer) → numberOf a ≡ 0 → Tells true a → Numbers (row true t (view t) a) (Say a) []
 unfolding numberP firstNo TellsP Does
 read a z h = record { is = z; tells = h; does = λ _. (refl, refl) }
 
@@ -131,14 +149,14 @@ module _ {r : Row} {cs : List Check} where
   unless false k e = pass _ e
 
 -- two ways, each with checks and an effect of its own
-pub either : {r : Bool} {s v w : View} {a : Answer} {p q : Plan} {cs ds : List Check} (b : Bool) → Numbers (row r s v a) p cs → Numbers (row r s w a) q ds
+pub either : {r : Bool} {s : Tables} {v w : View} {a : Answer} {p q : Plan} {cs ds : List Check} (b : Bool) → Numbers (row r s v a) p cs → Numbers (row r s w a) q ds
     → Numbers (row r s (choose b v w) a) (choose b p q) (choose b cs ds)
 unfolding choose
 either true e f = e
 either false e f = f
 
 -- a check on one way alone, which must not fail there
-pub child-first : {r : Bool} {s v w : View} {y : Answer} {p q : Plan} {cs : List Check} (a b : Bool) (k : ℕ)
+pub child-first : {r : Bool} {s : Tables} {v w : View} {y : Answer} {p q : Plan} {cs : List Check} (a b : Bool) (k : ℕ)
     → Numbers (row r s v y) p cs → Numbers (row r s w y) q cs
     → Numbers (row r s (choose a v w) y) (choose a (choose b p (refuse 14 k)) q) (check count (choose a b true) ∷ cs)
 unfolding choose

@@ -6,7 +6,7 @@ use Rattle.base_levels.specs.Level.{topLevel, levelOk, gpaFits}
 use Rattle.base_units.specs.declared.address.{Hpa.Hpa, Gpa.Gpa, Pfn.Pfn}
 use Rattle.book_gauge.specs.{Marks.marksOk, declared.Gauge.Gauge}
 use Rattle.book_stock.specs.{Bits.inUse, Bits.lowestUnused, Bits.onLowest, declared.bits.Lowest.Lowest}
-use Rattle.book_ledger.specs.Codes.{NDA, TDR, EPT, FREE, NL-MAPPED, PENDING, NL-BLOCKED, BLOCKED, PENDING-BLOCKED, ASSIGNED, CONFIGURED, BLOCKED-LIFE}
+use Rattle.book_ledger.specs.Codes.{NDA, TDR, EPT, FREE, NL-MAPPED, PENDING, NL-BLOCKED, BLOCKED, PENDING-BLOCKED, ASSIGNED, CONFIGURED, WRITTEN-BACK}
 use Rattle.book_ledger.specs.{Codes.TEARDOWN, Codes.UNINITIALIZED, Codes.INITIALIZED, Codes.RUNNABLE, Sizes.tablesOf, Sizes.bitsOf}
 use Rattle.book_range.specs.Range.{lentOk}
 use Rattle.book_ledger.specs.{Tables.Tables, Tables.frameAt, Tables.domainAt, Tables.entryAt, declared.words.Entry.Entry}
@@ -205,13 +205,15 @@ module _ (base : Hpa) (t : Tables) where
       check remain (tableEmpty (t .entries) (frameAt (t .frames) (e .frame) .number))
       ∷ hasChild (domainAtHpa d))))
   checksOf (Call.FlushDone d) = inside d (isDomain t (window d) (check lifecycle (between ASSIGNED (domainAtHpa d .dom .life) CONFIGURED) ∷ []))
-  checksOf (Call.KeyFree d) = inside d (isDomain t (window d) (check lifecycle (between BLOCKED-LIFE (domainAtHpa d .dom .life) BLOCKED-LIFE) ∷ []))
+  checksOf (Call.KeyFree d) = inside d (isDomain t (window d) (check lifecycle (between WRITTEN-BACK (domainAtHpa d .dom .life) WRITTEN-BACK) ∷ []))
   checksOf (Call.Reclaim f) =
       inside f (
       check domain (not (kindIs t (window f) NDA))
       ∷ choose (kindIs t (window f) TDR) (ofTdr (window f)) (ofChild (window f)))
   checksOf (Call.ReadPage f) = inside f []
   checksOf (Call.ReadEntry d gpa level) = spot base t d gpa level 0 (live t (window d) (walked (walkOf t (domainAtHpa d) gpa level) []))
+  -- request 5: only 13
+  checksOf (Call.CacheWb) = []
 
 -- the calls that read something out where they are accepted
 unfoldable pub reads : Call → Bool
@@ -233,6 +235,7 @@ reads (Call.KeyFree d) = false
 reads (Call.Reclaim f) = false
 reads (Call.ReadPage f) = true
 reads (Call.ReadEntry d gpa level) = true
+reads (Call.CacheWb) = false
 
 -- answer 13 first, for every call
 abbrev pub allChecks : Hpa → Tables → Gauge → Call → List Check

@@ -5,12 +5,12 @@ use Rattle.base_rules.specs.Basics.{ℕ, _+_, _-_, _%_, Bool, true, false, eqb,
 use Rattle.base_units.specs.{Limits.controlPages, Limits.tableEntries, Address.hpaOf}
 use Rattle.base_units.specs.declared.address.{Hpa.Hpa, Gpa.Gpa, Pfn.Pfn}
 use Rattle.book_stock.specs.Bits.{lowestUnused}
-use Rattle.book_ledger.specs.Codes.{NDA, TDR, TDCX, EPT, REG, FREE, NL-MAPPED, MAPPED, PENDING, ASSIGNED, CONFIGURED, BLOCKED-LIFE, TEARDOWN, UNINITIALIZED}
-use Rattle.book_ledger.specs.{Codes.INITIALIZED, Codes.RUNNABLE, Tables.Tables, Tables.frameAt}
+use Rattle.book_ledger.specs.Codes.{NDA, TDR, TDCX, EPT, REG, FREE, NL-MAPPED, MAPPED, PENDING, ASSIGNED, CONFIGURED, BLOCKED-LIFE, TEARDOWN, WRITTEN-BACK}
+use Rattle.book_ledger.specs.{Codes.UNINITIALIZED, Codes.INITIALIZED, Codes.RUNNABLE, Tables.Tables, Tables.frameAt}
 use Rattle.book_ledger.specs.declared.words.{Frame.Frame, Domain.Domain, Entry.Entry}
 use Rattle.book_walk.specs.declared.Walk.{Walk}
 use Rattle.base_calls.specs.declared.{Answer.Answer, Call.Call}
-use Rattle.call_plan.specs.{Lookup.rootIn, Entries.walkOf, declared.lookup.Subject.Subject}
+use Rattle.call_plan.specs.{Lookup.bitIn, Lookup.rootIn, Entries.walkOf, declared.lookup.Subject.Subject}
 use Rattle.fact_keeps.specs.Views.{View, view}
 use Rattle.fact_theorems.specs.Checks.{recordOf, kindIs, window, firstBit, endBit, arrived, block, index, theOne}
 
@@ -32,6 +32,10 @@ frameTo n f s = record { frame = place (n .0) f (s .frame); domain = s .domain; 
 
 abbrev recordTo : ℕ → Domain → View → View
 recordTo r d s = record { frame = s .frame; domain = place r d (s .domain); control = s .control; entry = s .entry; used = s .used }
+
+-- every record becomes what f makes of it and of its number
+abbrev recordsTo : (ℕ → Domain → Domain) → View → View
+recordsTo f s = record { frame = s .frame; domain = λ r. f r (s .domain r); control = s .control; entry = s .entry; used = s .used }
 
 abbrev pageTo : ℕ → ℕ → Pfn → View → View
 pageTo r i f s = record { frame = s .frame; domain = s .domain; control = within controlPages r i (f .0) (s .control); entry = s .entry; used = s .used }
@@ -178,6 +182,10 @@ module _ (base : Hpa) (t : Tables) where
       (leaves (recordOf t (frameAt (t .frames) n .owner)) n (giveBack (tableOf n) (view t)))
       (leaves (recordOf t (frameAt (t .frames) n .owner)) n (view t)))
 
+  -- every record in use, whether or not a TDR names it
+  abbrev writesBack : ℕ → Domain → Domain
+  writesBack r d = choose (view t .used (bitIn t r)) (choose (eqb (d .life) BLOCKED-LIFE) (life WRITTEN-BACK d) d) d
+
   unfoldable pub effectOf : Call → View
   effectOf (Call.Create f key) = creates (window base t f) key newBit (newBit - firstBit base t)
   -- keys configured
@@ -209,6 +217,8 @@ module _ (base : Hpa) (t : Tables) where
   effectOf (Call.Reclaim f) = reclaims (window base t f)
   effectOf (Call.ReadPage f) = view t
   effectOf (Call.ReadEntry d gpa level) = view t
+  -- "every domain in blocked becomes blocked and written back"
+  effectOf (Call.CacheWb) = recordsTo writesBack (view t)
 
   -- ---- the answer of an accepted call: the two that read say what they read
   abbrev nowhere : Hpa
@@ -240,4 +250,5 @@ module _ (base : Hpa) (t : Tables) where
   acceptedOf (Call.KeyFree d) = Answer.Done
   acceptedOf (Call.Reclaim f) = Answer.Done
   acceptedOf (Call.ReadPage f) = Answer.Page (frameAt (t .frames) (window base t f) .kind) (ownerOf (frameAt (t .frames) (window base t f)))
+  acceptedOf (Call.CacheWb) = Answer.Done
   acceptedOf (Call.ReadEntry d gpa level) = Answer.Entry level (arrived t (walk d gpa level) .state) (leadsTo (arrived t (walk d gpa level)))

@@ -24,4 +24,4 @@ doorOf base t g r = shown (askOf base t g (askFor r))
 
 -- It goes up whenever a struct, a number or the layout of a lent word changes so that a header and an archive no longer fit.
 abbrev pub version : ℕ
-version = 2
+version = 3

@@ -31,5 +31,5 @@ pub extern "C" fn reefnettle_ask(
 pub extern "C" fn reefnettle_version() -> u64
     ensures { λ v. ⌜ v ≡ version ⌝ }
 {
-    2
+    3
 }

@@ -8,9 +8,13 @@ use crate::rng::Rng;
 use crate::script::{write_line, Operand, Unit, MAX_LINE};
 use crate::state::{Machine, FRAME_BYTES};
 
-/// The line of a call with one of its numbers, seldom two, put out of rule.
+/// The line of a call with one of its numbers, seldom two, put out of rule. One
+/// without operands stays as it is.
 pub fn operand(rng: &mut Rng, machine: &Machine, call: Call) -> Vec<u8> {
     let (name, mut operands) = call.parts();
+    if operands.is_empty() {
+        return write_line(name, &operands);
+    }
     let level = level_of(&operands);
     let times = if rng.chance(150) { 2 } else { 1 };
     for _ in 0..times {
@@ -104,6 +108,9 @@ fn bad_key(rng: &mut Rng, key: u64) -> u64 {
 /// The line of a call with its text put out of rule.
 pub fn text(rng: &mut Rng, call: Call) -> Vec<u8> {
     let (name, operands) = call.parts();
+    if operands.is_empty() {
+        return bare_text(rng, name.as_bytes());
+    }
     let mut fields: Vec<Vec<u8>> = vec![name.into()];
     for operand in &operands {
         fields.push(operand.unit.name().into());
@@ -198,8 +205,33 @@ pub fn text(rng: &mut Rng, call: Call) -> Vec<u8> {
     fields.join(&b'\t')
 }
 
+/// The same for a call without operands, whose line is its name alone.
+fn bare_text(rng: &mut Rng, name: &[u8]) -> Vec<u8> {
+    const BEFORE: [&str; 3] = ["\t", " ", "\u{feff}"];
+    const BEHIND: [&str; 10] = [
+        "\t",
+        "\t\t",
+        " ",
+        "\r",
+        "\0",
+        "0",
+        "\t0",
+        "\thpa",
+        "\thpa\t1073741824",
+        "\u{e9}",
+    ];
+    match rng.below(10) {
+        0 => name.to_ascii_uppercase(),
+        1 => name[..rng.index(name.len())].to_vec(),
+        2 => [BEFORE[rng.index(BEFORE.len())].as_bytes(), name].concat(),
+        3 => filled_to(name, MAX_LINE + 1),
+        4 => too_long(rng, name),
+        _ => [name, BEHIND[rng.index(BEHIND.len())].as_bytes()].concat(),
+    }
+}
+
 fn unknown_name(rng: &mut Rng) -> Vec<u8> {
-    const NAMES: [&str; 16] = [
+    const NAMES: [&str; 17] = [
         "creat",
         "creates",
         "reset",
@@ -213,6 +245,7 @@ fn unknown_name(rng: &mut Rng) -> Vec<u8> {
         "read",
         "readpages",
         "keyfreeid",
+        "cachewbinvd",
         "line",
         "#",
         "",

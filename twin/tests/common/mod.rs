@@ -110,6 +110,7 @@ pub fn tree() -> Machine {
 pub fn ended() -> Machine {
     let mut machine = tree();
     accept(&mut machine, Call::FlushDone { domain: D });
+    accept(&mut machine, Call::CacheWb);
     accept(&mut machine, Call::KeyFree { domain: D });
     machine
 }

@@ -1,25 +1,13 @@
-use Rattle.base_rules.proofs.Facts.{needs}
-use Rattle.call_carry.specs.Carry.{carried, applied}
+use Rattle.base_rules.proofs.Facts.{ap, needs}
+use Rattle.base_calls.specs.declared.Answer.the-variants.{Done}
+use Rattle.call_carry.specs.Carry.{carriedOut, carried, sweptTables}
 use Rattle.call_carry.proofs.carry.{Statement.statement, Tie.close, Tie.spec}
 
 pub carry-spec : {M : Type 1} → statement M
-unfolding carried applied
+unfolding carried sweptTables
 carry-spec = close (spec
-    (λ c. search needs) (λ c. search needs) (λ c κs. search needs) (λ c κs. search needs) (λ c κs. search needs) (λ c κs. search needs)
-    (λ c κs. search needs) (λ c κs. search needs) (λ c κs. search needs) (λ c. rw (c .before .p .given .1)) (λ c. search needs)
-    (λ c. search needs) (λ c. search needs) (λ c. search needs)
-    (λ c. rw (
-      c .before .before .before .before .before .before .before .before .before .before .before .before .before .before .before .before .before .before
-          .before .before .before .before .before .before .before .before .before .before .before .p2 .given .1,
-      c .before .before .before .before .before .before .before .before .before .before .before .before .before .before .before .before .before .before
-          .before .before .before .before .before .before .before .before .apply-frame .ensures,
-      c .before .before .before .before .before .before .before .before .before .before .before .before .before .before .before .before .before .before
-          .before .before .before .before .apply-use .ensures,
-      c .before .before .before .before .before .before .before .before .before .before .apply-page
-          .ensures,
-      c .before .before .before .before .before .before .before .before .before .before .before .before .before .before .apply-domain .ensures,
-      c .before .before .before .before .before .before .before .before .before .before .before .before .before .before .before .before .before .before
-          .apply-record .ensures,
-      c .before .before .apply-entry .ensures,
-      c .before .before .before .before .before .before .apply-block .ensures,
-    )))
+    (λ c. search needs) (λ c. rw (c .before .p .given .1)) (λ c. search needs) (λ c κs. search needs) (λ c. search needs) (λ c κs. search needs)
+    (λ c. search needs) (λ c. search needs) (λ c. search needs) (λ c. search needs)
+    (λ c. rw (c .before .before .before .before .before .before .before .before .before .before .before .before .before .before .p2 .given .1) (ap (carriedOut Done) (c .before .before .before .before .before .before .before .before .apply .ensures)))
+    (λ c. search needs) (λ c. search needs)
+    (λ c. rw (c .before .before .before .before .before .before .p3 .given .1, c .before .before .sweep-records .ensures)))

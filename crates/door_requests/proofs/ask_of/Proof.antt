@@ -9,4 +9,4 @@ ask-of-spec = close (spec
     (λ c. search number-is) (λ c. search number-is) (λ c. search number-is) (λ c. search number-is) (λ c. search number-is)
     (λ c. search number-is) (λ c. search number-is) (λ c. search number-is) (λ c. search number-is) (λ c. search number-is)
     (λ c. search number-is) (λ c. search number-is) (λ c. search number-is) (λ c. search number-is) (λ c. search number-is)
-    (λ c. search number-other))
+    (λ c. search number-is) (λ c. search number-other))

@@ -11,6 +11,7 @@ plan-of-spec = close (spec
     (λ c. search needs) (λ c κs. search needs) (λ c. search needs) (λ c κs. search needs) (λ c. search needs) (λ c κs. search needs)
     (λ c. search needs) (λ c κs. search needs) (λ c. search needs) (λ c κs. search needs) (λ c. search needs) (λ c κs. search needs)
     (λ c. search needs) (λ c κs. search needs) (λ c. search needs) (λ c κs. search needs) (λ c. search needs) (λ c κs. search needs)
+    (λ c. search needs) (λ c κs. search needs)
     (λ c. rw (c .before .before .c .given .1) (c .plan-create .ensures)) (λ c. rw (c .before .before .c2 .given .1) (c .plan-life .ensures))
     (λ c. rw (c .before .before .c3 .given .1) (c .plan-addcx .ensures)) (λ c. rw (c .before .before .c4 .given .1) (c .plan-op .ensures))
     (λ c. rw (c .before .before .c5 .given .1) (c .plan-septadd .ensures))
@@ -25,4 +26,4 @@ plan-of-spec = close (spec
     (λ c. rw (c .before .before .c15 .given .1) (c .plan-life3 .ensures))
     (λ c. rw (c .before .before .c16 .given .1) (c .plan-reclaim .ensures))
     (λ c. rw (c .before .before .c17 .given .1) (c .plan-readpage .ensures))
-    (λ c. rw (c .before .before .c18 .given .1) (c .plan-readentry .ensures)))
+    (λ c. rw (c .before .before .c18 .given .1) (c .plan-readentry .ensures)) (λ c. rw (c .before .enum-told .given .1) (c .plan-cachewb .ensures)))
