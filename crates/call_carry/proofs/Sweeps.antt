@@ -1,8 +1,8 @@
 -- Laws of a sweep: how long the words are, a turn of the loop, and its end.
-use Rattle.base_rules.specs.Basics.{_≡_, List, ℕ, zero, suc, _+_, _-_, _/_, _<_, _≤_, length, choose, given}
+use Rattle.base_rules.specs.Basics.{_≡_, List, ℕ, zero, suc, _+_, _-_, _/_, _<_, _≤_, length, given}
 use Rattle.base_rules.proofs.Facts.{refl, ap, _∙_, arith, choose-both}
 use Rattle.base_units.specs.Limits.{recordWords}
-use Rattle.book_ledger.specs.{Tables.setDomain, declared.words.Domain.Domain}
+use Rattle.book_ledger.specs.{Tables.setDomain}
 use Rattle.book_ledger.proofs.Lens.{word-length}
 use Rattle.call_plan.specs.declared.edit.Sweep.{Sweep}
 use Rattle.call_carry.specs.Carry.{sweptAt, sweptFrom, swept}

@@ -51,7 +51,7 @@ applied e t =
     (afterUse (e .stock) (t .stock))
     (afterEntry (e .entry) (afterBlock (e .stock) (t .entries)))
 
--- ---- a sweep, over k records from r on: each that is in use, whether or not a TDR names it. `entries` is how many entries are lent
+-- ---- a sweep: of record r, if it is in use, whether or not a TDR names it. `entries` is how many entries are lent
 unfoldable pub sweptAt : Sweep → List ℕ → ℕ → ℕ → List ℕ → List ℕ
 sweptAt w st entries r ds =
     given (bitOf (length ds) entries r) λ bit.
@@ -60,6 +60,7 @@ sweptAt w st entries r ds =
     choose (eqb (d .life) (w .from)) (
     given (withLife d (w .to)) (setDomain ds r)) ds) ds
 
+-- .. of the k records from r on, and of all that are lent
 unfoldable pub sweptFrom : Sweep → List ℕ → ℕ → ℕ → ℕ → List ℕ → List ℕ
 sweptFrom w st entries r zero ds = ds
 sweptFrom w st entries r (suc k) ds = sweptFrom w st entries (r + 1) k (sweptAt w st entries r ds)

@@ -1,8 +1,8 @@
 -- What a sweep leaves of the tables, read number by number, and that it keeps the range check: once for every sweep that gives a lifecycle in range.
-use Rattle.base_rules.specs.Basics.{_≡_, Bool, true, false, List, ℕ, zero, suc, _+_, _*_, _/_, _%_, _<_, _≤_, eqb, length, choose, given}
-use Rattle.base_rules.proofs.Facts.{refl, sym, ap, _∙_, arith, eqb-true, ltb-true, lt-ltb, le-ltb, choose-both, by-eq, by-lt}
+use Rattle.base_rules.specs.Basics.{_≡_, Bool, true, false, List, ℕ, zero, suc, _+_, _*_, _<_, _≤_, eqb, length, choose, given}
+use Rattle.base_rules.proofs.Facts.{refl, ap, _∙_, arith, ltb-true, le-ltb, choose-both, by-eq, by-lt}
 use Rattle.base_units.specs.{Limits.recordWords, declared.address.Hpa.Hpa, declared.address.Pfn.Pfn}
-use Rattle.book_stock.specs.Bits.{wordBits, wordOf, inUse, spareClear}
+use Rattle.book_stock.specs.Bits.{inUse, spareClear}
 use Rattle.book_stock.proofs.Bit.{clear-of-lt}
 use Rattle.book_ledger.specs.{Codes.WRITTEN-BACK, Sizes.bitOf, Tables.Tables, Tables.domainAt, Tables.setDomain, Tables.pageAt, Words.DomainFits}
 use Rattle.book_ledger.specs.declared.words.Domain.{Domain}

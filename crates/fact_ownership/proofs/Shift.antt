@@ -1,14 +1,14 @@
 -- A change on one domain: found frames leave it and join it, and every other domain is left alone. One relation for every edit, and one theorem:
 -- it keeps a state sound.
 use Rattle.base_rules.specs.Basics.{_≡_, true, List, ℕ, _+_, _<_}
-use Rattle.base_rules.proofs.Facts.{refl, sym, ap, _∙_, subst, arith, by-eq}
-use Rattle.book_ledger.specs.{Codes.NDA, Codes.TDR, Codes.EPT, Codes.TEARDOWN, declared.words.Domain.Domain}
+use Rattle.base_rules.proofs.Facts.{refl, sym, _∙_, subst, arith, by-eq}
+use Rattle.book_ledger.specs.{Codes.NDA, Codes.TDR, Codes.EPT, Codes.TEARDOWN}
 use Rattle.fact_keeps.specs.Views.{View, kind, owner, number, life}
-use Rattle.fact_ownership.specs.Owned.{Found, weight, times, same, one, Extent, finds, mine, Owns, Keyed, Block, root, below, Belongs, Untouched}
+use Rattle.fact_ownership.specs.Owned.{Found, weight, times, same, one, Extent, finds, mine, Owns, Block, root, below, Belongs, Untouched}
 use Rattle.fact_ownership.specs.{Reached.Lists, Always.Numbered, Always.a-record, Always.a-table, Always.blockOf}
 use Rattle.fact_ownership.proofs.Sums.{size, size-length}
-use Rattle.fact_ownership.proofs.Domain.{SameFrame, same-frame, SameEntry, SameRecord, leaves-all, same-owns}
-use Rattle.fact_ownership.proofs.Sound.{held, held-besides, childs, childs-tdr, Sound, owns-walk, Spare, not-spare, apart, holds, holds-size}
+use Rattle.fact_ownership.proofs.Domain.{SameFrame, SameEntry, SameRecord, leaves-all, same-owns}
+use Rattle.fact_ownership.proofs.Sound.{held, held-besides, childs, childs-tdr, Sound, Spare, not-spare, apart, holds, holds-size}
 
 -- ---- the relation
 

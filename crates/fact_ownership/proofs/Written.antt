@@ -1,12 +1,12 @@
 -- The one change that may touch several domains: of each that is blocked the lifecycle becomes written back. It keeps a state sound and tidy, since
 -- such a domain has its key and all its frames still.
-use Rattle.base_rules.specs.Basics.{_≡_, true, List, ℕ, eqb, choose}
-use Rattle.base_rules.proofs.Facts.{refl, sym, ap, _∙_, subst, arith, eqb-true, choose-both, by-eq, ne-eqb}
-use Rattle.book_ledger.specs.{Codes.TDR, Codes.BLOCKED-LIFE, Codes.TEARDOWN, Codes.WRITTEN-BACK, declared.words.Frame.Frame, declared.words.Domain.Domain}
+use Rattle.base_rules.specs.Basics.{_≡_, List, ℕ, eqb, choose}
+use Rattle.base_rules.proofs.Facts.{refl, sym, ap, _∙_, subst, arith, choose-both}
+use Rattle.book_ledger.specs.{Codes.TDR, Codes.BLOCKED-LIFE, Codes.TEARDOWN, Codes.WRITTEN-BACK, declared.words.Domain.Domain}
 use Rattle.book_ledger.specs.declared.words.Entry.{Entry}
 use Rattle.fact_keeps.specs.Views.{View, kind, number, key, life}
-use Rattle.fact_ownership.specs.Owned.{Found, Extent, Owns, Keyed, rootBlock, writtenBack, WrittenBack}
-use Rattle.fact_ownership.specs.{Reached.Lists, Always.Holds, Always.holds, Always.Numbered, Always.blockOf}
+use Rattle.fact_ownership.specs.Owned.{Found, Extent, Owns, Keyed, writtenBack, WrittenBack}
+use Rattle.fact_ownership.specs.{Reached.Lists, Always.Holds, Always.holds}
 use Rattle.fact_ownership.proofs.{Domain.SameFrame, Domain.same-frame, Domain.Leaves, Domain.same-owns, Sound.held, Sound.Sound, Sound.held-besides}
 use Rattle.fact_ownership.proofs.Tidy.{Tidy}
 

@@ -133,11 +133,11 @@ pub data Block (z : Extent) (s : View) (d b : ℕ) : Type 0 where
   root : b ≡ rootBlock z s d → Block z s d b
   below : (g : ℕ) → kind s g ≡ EPT → owner s g ≡ d → b ≡ number s g → Block z s d b
 
--- of domain e nothing moved but the scalars of its record, which became what f makes of them: its TDR, its control pages, its frames (none
+-- of domain e nothing moved but the scalars of its record, which are what `becomes` makes of them: its TDR, its control pages, its frames (none
 -- lost, none gained), its tree and what it has in use are as they were
-pub record Besides (f : Domain → Domain) (z : Extent) (s s′ : View) (e : ℕ) : Type 0 where
+pub record Besides (becomes : Domain → Domain) (z : Extent) (s s′ : View) (e : ℕ) : Type 0 where
   pub tdr : s′ .frame e ≡ s .frame e
-  pub record′ : s′ .domain (number s e) ≡ f (s .domain (number s e))
+  pub record′ : s′ .domain (number s e) ≡ becomes (s .domain (number s e))
   pub pages : (i : ℕ) → s′ .control (number s e) i ≡ s .control (number s e) i
   pub kept : (f : ℕ) → Belongs s e f → s′ .frame f ≡ s .frame f
   pub gained : (f : ℕ) → Belongs s′ e f → Belongs s e f

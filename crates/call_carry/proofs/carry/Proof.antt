@@ -8,6 +8,7 @@ unfolding carried sweptTables
 carry-spec = close (spec
     (λ c. search needs) (λ c. rw (c .before .p .given .1)) (λ c. search needs) (λ c κs. search needs) (λ c. search needs) (λ c κs. search needs)
     (λ c. search needs) (λ c. search needs) (λ c. search needs) (λ c. search needs)
-    (λ c. rw (c .before .before .before .before .before .before .before .before .before .before .before .before .before .before .p2 .given .1) (ap (carriedOut Done) (c .before .before .before .before .before .before .before .before .apply .ensures)))
+    (λ c. rw (c .before .before .before .before .before .before .before .before .before .before .before .before .before .before .p2 .given .1)
+    (ap (carriedOut Done) (c .before .before .before .before .before .before .before .before .apply .ensures)))
     (λ c. search needs) (λ c. search needs)
     (λ c. rw (c .before .before .before .before .before .before .p3 .given .1, c .before .before .sweep-records .ensures)))
