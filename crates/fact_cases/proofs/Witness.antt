@@ -44,4 +44,6 @@ witness =
       teardown = refl;
       left = record { type = omega arith; owner = refl };
       keyed = record { tdr = refl; held = λ e. absurd (omega (arith, e)) };
+      written = refl;
+      writtenKeyed = record { tdr = refl; held = λ e. absurd (omega (arith, e)) };
     }

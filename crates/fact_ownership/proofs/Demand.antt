@@ -15,7 +15,7 @@ use Rattle.fact_ownership.specs.{Owned.found, Owned.Found, Owned.Owns, O
 use Rattle.fact_ownership.specs.Reached.{extent, Lists, roleOf, subject, left, leftBy, Accepted, Reached, Demand3, fresh, called, marked}
 use Rattle.fact_ownership.proofs.{Domain.mine-not, Sound.held-freed, Sound.Sound, Sound.owns-walk, Sound.not-bare, State.State, Turns.Does}
 use Rattle.fact_ownership.proofs.{Shift.untouched, Shift.shifted, Plans.Good, Plans.answers, Plans.reading, Plans.steps, Plans.writes, Plans.plan-good}
-use Rattle.fact_ownership.proofs.Written.{Sweep as Swept, written-back, swept-sound, swept-tidy}
+use Rattle.fact_ownership.proofs.Written.{Swept, written-back, swept-sound, swept-tidy}
 use Rattle.fact_keeps.proofs.{Stores.SameLengths, Stores.same-lengths, Stores.after, Plans.Keep, Plans.does, Plans.sweeps, Plans.plan-keeps}
 use Rattle.fact_keeps.proofs.{Sweeps.sweptDomain, Sweeps.AfterSweep, Sweeps.sweep-lengths, Sweeps.keep-sweep, Ranged.bit-is, Lookups.record-low}
 use Rattle.fact_keeps.proofs.{Ranged.SizesOk, Ranged.of-lent, Fresh.zeros, Fresh.zero-frame, Fresh.zero-unused, Fresh.zeros-lent}

@@ -21,14 +21,14 @@ leaves-written = record {
 }
 
 -- every frame, control page, entry and in-use bit is as it was, and of the domains the lifecycle moved as writing back moves it
-pub record Sweep (s s′ : View) : Type 0 where
+pub record Swept (s s′ : View) : Type 0 where
   pub frames : (f : ℕ) → s′ .frame f ≡ s .frame f
   pub domains : (e : ℕ) → kind s e ≡ TDR → s′ .domain (number s e) ≡ writtenBack (s .domain (number s e))
   pub controls : (r i : ℕ) → s′ .control r i ≡ s .control r i
   pub entries : (b i : ℕ) → s′ .entry b i ≡ s .entry b i
   pub uses : (b : ℕ) → s′ .used b ≡ s .used b
 
-module _ (z : Extent) {s s′ : View} (p : Sweep s s′) where
+module _ (z : Extent) {s s′ : View} (p : Swept s s′) where
   same : (f : ℕ) → SameFrame s s′ f
   same f = same-frame s s′ f (p .frames f)
 
