@@ -2,7 +2,7 @@
 
 mod common;
 
-use common::{accept, blocked, ended, hpa, refuse, tree, with, D, MIB};
+use common::{accept, blocked, calls_on_d, ended, hpa, refuse, tree, with, D, MIB};
 use reefnettle_twin::{entry_state, frame_type, op_state, Call, Entry, Frame, Machine};
 
 /// A change made by hand, by name.
@@ -214,36 +214,12 @@ fn tracking_is_judged_by_whatever_frame_is_named() {
 
 #[test]
 fn a_record_unused() {
-    let (domain, gpa, level, page) = (D, 0, 1, hpa(30));
-    let calls = [
-        Call::KeyConfig { domain },
-        Call::AddCx { domain, page },
-        Call::Init { domain },
-        Call::SeptAdd {
-            domain,
-            gpa,
-            level,
-            page,
-        },
-        Call::PageAdd { domain, gpa, page },
-        Call::Finalize { domain },
-        Call::PageAug { domain, gpa, page },
-        Call::Block { domain, gpa, level },
-        Call::Track { domain },
-        Call::Unblock { domain, gpa, level },
-        Call::PageRemove { domain, gpa },
-        Call::SeptRemove { domain, gpa, level },
-        Call::FlushDone { domain },
-        Call::KeyFree { domain },
-        Call::ReadEntry { domain, gpa, level },
-        Call::Reclaim { page: D },
-        Call::Reclaim { page: hpa(1) },
-        Call::Reclaim { page: hpa(5) },
-        Call::Reclaim { page: hpa(8) },
-    ];
+    let mut calls = calls_on_d().to_vec();
+    calls.push(Call::KeyFree { domain: D });
+    calls.extend([0, 1, 5, 8].map(|frame| Call::Reclaim { page: hpa(frame) }));
     for machine in [tree(), ended()] {
         let mut machine = with(&machine, |m| m.records[0].in_use = false);
-        for call in calls {
+        for &call in &calls {
             refuse(&mut machine, call, 14);
         }
     }

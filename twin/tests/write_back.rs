@@ -3,7 +3,7 @@
 
 mod common;
 
-use common::{accept, build, ended, hpa, live, refuse, tree, with, D, E};
+use common::{accept, build, calls_on_d, ended, hpa, live, refuse, tree, with, D, E};
 use reefnettle_twin::{lifecycle, op_state, replay_machine, Call, Frame, Machine, Record};
 
 /// D, E and a third domain, each initialized.
@@ -84,31 +84,9 @@ fn a_key_is_freed_only_when_written_back() {
 
 #[test]
 fn a_domain_written_back_is_as_blocked_as_before() {
-    let (domain, gpa, level, page) = (D, 0, 1, hpa(30));
-    let calls = [
-        Call::KeyConfig { domain },
-        Call::AddCx { domain, page },
-        Call::Init { domain },
-        Call::SeptAdd {
-            domain,
-            gpa,
-            level,
-            page,
-        },
-        Call::PageAdd { domain, gpa, page },
-        Call::Finalize { domain },
-        Call::PageAug { domain, gpa, page },
-        Call::Block { domain, gpa, level },
-        Call::Track { domain },
-        Call::Unblock { domain, gpa, level },
-        Call::PageRemove { domain, gpa },
-        Call::SeptRemove { domain, gpa, level },
-        Call::FlushDone { domain },
-        Call::ReadEntry { domain, gpa, level },
-    ];
     for op_state in [op_state::INITIALIZED, op_state::RUNNABLE] {
         let mut machine = with(&written_back(), |m| m.records[0].op_state = op_state);
-        for call in calls {
+        for call in calls_on_d() {
             refuse(&mut machine, call, 3);
         }
         // Its frames, of every type, stay until the key is free.

@@ -10,7 +10,7 @@ use Rattle.call_plan.specs.Lookup.{onParties, isNda, rootIn, partiesFor}
 use Rattle.call_plan.specs.Changes.{refuse, become, gain, onFrame, operandOf, onDomain, onBuilt}
 use Rattle.call_plan.specs.declared.{lookup.Subject.Subject, edit.FrameEdit.FrameEdit, edit.PageEdit.PageEdit, edit.DomainEdit.DomainEdit}
 use Rattle.call_plan.specs.declared.{edit.StockEdit.StockEdit, edit.EntryEdit.EntryEdit, edit.Plan.Plan, edit.Plan.the-variants.Say, edit.Plan.the-variants.Do}
-use Rattle.call_plan.specs.declared.edit.Plan.the-variants.{Each}
+use Rattle.call_plan.specs.declared.edit.{Sweep.Sweep, Plan.the-variants.Each}
 use Rattle.base_calls.specs.Operands.{D, F·alone, F·addcx, KEY, NONE}
 
 -- the lifecycle from `least` to `most` (3); its new one
@@ -29,8 +29,11 @@ abbrev pub flushdonePlan : Hpa → Tables → Hpa → Plan
 flushdonePlan base t d = lifePlan base t d ASSIGNED CONFIGURED BLOCKED-LIFE
 
 -- cachewb: "every domain in blocked becomes blocked and written back" (request 5). It has no operands, and refuses nothing
+abbrev pub writeBack : Sweep
+writeBack = record { from = BLOCKED-LIFE; to = WRITTEN-BACK }
+
 abbrev pub cachewbPlan : Plan
-cachewbPlan = Each (record { from = BLOCKED-LIFE; to = WRITTEN-BACK })
+cachewbPlan = Each writeBack
 
 -- keyfree: blocked and written back ("keyfree then needs that, and answers 3 without it"); teardown; key free
 abbrev pub keyfreePlan : Hpa → Tables → Hpa → Plan

@@ -213,4 +213,4 @@ module _ (base : Hpa) (t : Tables) (ok : Lent base t) where
   plan-keeps (Call.ReadEntry d gpa level) = on-spot d no-frame gpa level 0 INITIALIZED RUNNABLE _ (λ x _ k _.
       on-walk (Keep base t) (walk-for base t ok x k gpa level) _ _ _ (λ j i. says) (λ _. says)
       (λ b i sp. choose-both (Keep base t) _ _ _ (λ _. says) (λ _. says)))
-  plan-keeps (Call.CacheWb) = sweeps (keep-sweep base t ok (record { from = BLOCKED-LIFE; to = WRITTEN-BACK }) (omega arith))
+  plan-keeps (Call.CacheWb) = sweeps (keep-sweep base t ok plans.writeBack (omega arith))

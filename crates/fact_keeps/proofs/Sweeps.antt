@@ -1,9 +1,8 @@
 -- What a sweep leaves of the tables, read number by number, and that it keeps the range check: once for every sweep that gives a lifecycle in range.
 use Rattle.base_rules.specs.Basics.{_≡_, Bool, true, false, List, ℕ, zero, suc, _+_, _*_, _<_, _≤_, eqb, length, choose, given}
-use Rattle.base_rules.proofs.Facts.{refl, ap, _∙_, arith, ltb-true, le-ltb, choose-both, by-eq, by-lt}
+use Rattle.base_rules.proofs.Facts.{refl, ap, _∙_, arith, le-ltb, choose-both, by-eq, by-lt}
 use Rattle.base_units.specs.{Limits.recordWords, declared.address.Hpa.Hpa, declared.address.Pfn.Pfn}
-use Rattle.book_stock.specs.Bits.{inUse, spareClear}
-use Rattle.book_stock.proofs.Bit.{clear-of-lt}
+use Rattle.book_stock.{specs.Bits.inUse, proofs.Uses.spare-unused}
 use Rattle.book_ledger.specs.{Codes.WRITTEN-BACK, Sizes.bitOf, Tables.Tables, Tables.domainAt, Tables.setDomain, Tables.pageAt, Words.DomainFits}
 use Rattle.book_ledger.specs.declared.words.Domain.{Domain}
 use Rattle.book_ledger.proofs.Lens.{domain-same, domain-other, page-of-domain}
@@ -95,8 +94,9 @@ pub record KeptSweep (base : Hpa) (t : Tables) (w : Sweep) : Type 0 where
 module _ (base : Hpa) (t : Tables) (ok : Lent base t) where
   -- a record that the tables don't have isn't in use
   beyond : (r : ℕ) → sizesIn t .records ≤ r → view t .used (bitIn t r) ≡ false
-  unfolding bitOf choose inUse spareClear
-  beyond r h = rw (le-ltb r (sizesIn t .records) h) (clear-of-lt _ _ (ltb-true _ _ (ok .spare)))
+  unfolding bitOf choose
+  beyond r h =
+      rw (le-ltb r (sizesIn t .records) h) (spare-unused (t .stock) _ (ok .spare) (omega (arith, sized base t (ok .sizes) .bits)) _ (omega arith))
 
   module _ (w : Sweep) (to-in : w .to ≤ WRITTEN-BACK) where
     abbrev words : List ℕ

@@ -7,7 +7,8 @@ use Rattle.book_gauge.specs.{Marks.marksOk, declared.Gauge.Gauge}
 use Rattle.book_ledger.specs.{Codes.NDA, Codes.TDR, Codes.BLOCKED-LIFE, Codes.WRITTEN-BACK, Tables.Tables, Tables.lent, declared.words.Frame.Frame}
 use Rattle.book_ledger.specs.declared.words.Domain.{Domain}
 use Rattle.base_calls.specs.{Answers.valuesOf, Answers.numberOf, declared.Answer.Answer, declared.Call.Call}
-use Rattle.call_plan.specs.{Edits.withLife, declared.edit.Plan.Plan, declared.edit.Sweep.Sweep}
+use Rattle.call_plan.specs.{Edits.withLife, declared.edit.Plan.Plan}
+use Rattle.call_domains.specs.Domains.{writeBack}
 use Rattle.call_carry.specs.Carry.{carried, applied}
 use Rattle.call_host.specs.Calls.{Outcome, outcome, planOf, callOf, resetOf, marksOf, ruleOf, settled}
 use Rattle.fact_keeps.specs.Views.{View, kind, number, frame, view}
@@ -60,9 +61,6 @@ same-extent : {t t′ : Tables} → SameLengths t t′ → extent t′ ≡ exten
 same-extent q = rw (q .domains, q .entries) refl
 
 -- what cachewb's plan does, in a state whose TDRs have their records in use
-abbrev writeBack : Sweep
-writeBack = record { from = BLOCKED-LIFE; to = WRITTEN-BACK }
-
 written : (d : Domain) → sweptDomain writeBack true d ≡ writtenBack d
 unfolding choose
 written d = elim (eqb (d .life) BLOCKED-LIFE)

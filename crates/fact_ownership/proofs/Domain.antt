@@ -2,10 +2,10 @@
 -- keeps its walk and its frames.
 use Rattle.base_rules.specs.Basics.{_≡_, List, [], _∷_, ℕ, suc, _≤_, _<_, eqb, ltb}
 use Rattle.base_rules.proofs.Facts.{refl, sym, ap, _∙_, arith, eq-eqb, ne-eqb, lt-ltb, le-ltb, by-eq, by-lt}
-use Rattle.book_ledger.specs.{Codes.TDCX, Codes.EPT, Codes.TEARDOWN, declared.words.Frame.Frame, declared.words.Domain.Domain, declared.words.Entry.Entry}
+use Rattle.book_ledger.specs.{Codes.TDR, Codes.TDCX, Codes.EPT, Codes.TEARDOWN, declared.words.Frame.Frame, declared.words.Domain.Domain, declared.words.Entry.Entry}
 use Rattle.fact_keeps.specs.Views.{View, kind, owner, number, listed, children}
 use Rattle.fact_ownership.specs.Owned.{Found, found, table, walk, times, same, one, both, Extent, rootBlock, shapeOf, tree, controls, treeOf, finds}
-use Rattle.fact_ownership.specs.Owned.{mine, Owns, Block, root, below, Belongs, Besides, shape, points}
+use Rattle.fact_ownership.specs.Owned.{mine, Owns, Keyed, Block, root, below, Belongs, Besides, shape, points}
 use Rattle.fact_ownership.proofs.Sums.{one-le, size, size-length, weight-append, each-cong}
 use Rattle.fact_ownership.proofs.Walk.{table-le, times-self, same-walk}
 
@@ -139,6 +139,12 @@ module _ {f : Domain → Domain} (lf : Leaves f) (z : Extent) (s s′ : View) (e
       record { typed = m .typed; kind = k .kind ∙ m .kind; owner = k .owner ∙ m .owner })
       (λ m. let b = u .gained (x .frame) (mine-belongs m) in let k = same-frame s s′ (x .frame) (u .kept (x .frame) b) in
       record { typed = m .typed; kind = sym (k .kind) ∙ m .kind; owner = b .owner })
+
+  pub was-keyed : kind s e ≡ TDR → Keyed s′ e → Keyed s e
+  was-keyed ke k = record {
+    tdr = ke;
+    held = λ q. k .held (rw (u-tdr .number) (ap (λ (x : Domain). x .life) (u .record′) ∙ lf .freed _ q));
+  }
 
   pub same-owns : (l : List Found) → Owns s e l → Owns s′ e l
   same-owns l o = record {

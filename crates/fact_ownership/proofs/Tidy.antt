@@ -5,7 +5,7 @@ use Rattle.book_ledger.specs.{Codes.TDR, Codes.UNINITIALIZED, Codes.FREE, decla
 use Rattle.fact_keeps.specs.Views.{View, kind, number, key, op}
 use Rattle.fact_ownership.specs.{Owned.Found, Owned.Extent, Owned.Keyed, Owned.root, Owned.rootBlock, Owned.Untouched, Always.Holds}
 use Rattle.fact_ownership.specs.Reached.{Lists}
-use Rattle.fact_ownership.proofs.{Domain.same-frame, Sound.Sound, Shift.Shift, Shift.untouched, Shift.was-tdr}
+use Rattle.fact_ownership.proofs.{Domain.same-frame, Domain.leaves-all, Domain.was-keyed, Sound.Sound, Shift.Shift, Shift.untouched, Shift.was-tdr}
 
 pub record Tidy (z : Extent) (s : View) : Type 0 where
   pub keys : (d e : ℕ) → Keyed s d → Keyed s e → key s (number s d) ≡ key s (number s e) → d ≡ e
@@ -34,8 +34,8 @@ module _ {z : Extent} {s : View} {l : Lists} (ok : Sound z s l) (ti : Tidy z s) 
       let n = same-frame s s′ e (u .tdr) .number in
       record { tdr = ke; moved = u; numbered = n; domain = ap (s′ .domain) n ∙ u .record′ }
 
-  was-keyed : (e : ℕ) → Keyed s′ e → (ne : e ≡ d → ⊥) → Keyed s e
-  was-keyed e k ne = let b = before e (k .tdr) ne in record { tdr = b .tdr; held = λ q. k .held (ap (λ (x : Domain). x .life) (b .domain) ∙ q) }
+  was-held : (e : ℕ) → Keyed s′ e → (ne : e ≡ d → ⊥) → Keyed s e
+  was-held e k ne = let b = before e (k .tdr) ne in was-keyed leaves-all z s s′ e (b .moved) (b .tdr) k
 
   same-key : (e : ℕ) → Keyed s′ e → (e ≡ d → ⊥) → key s′ (number s′ e) ≡ key s (number s e)
   same-key e k ne = ap (λ (x : Domain). x .key) (before e (k .tdr) ne .domain)
@@ -43,9 +43,9 @@ module _ {z : Extent} {s : View} {l : Lists} (ok : Sound z s l) (ti : Tidy z s) 
   pub tidied : Tidy z s′
   tidied = record {
     keys = λ e f ke kf q. by-eq e d
-        (λ a. by-eq f d (λ b. a ∙ sym b) (λ b. absurd (o .key (rw a at ke) f (was-keyed f kf b) b (rw a at q ∙ same-key f kf b))))
-        (λ a. by-eq f d (λ b. absurd (o .key (rw b at kf) e (was-keyed e ke a) a (rw b at (sym q) ∙ same-key e ke a)))
-        (λ b. ti .keys e f (was-keyed e ke a) (was-keyed f kf b) (sym (same-key e ke a) ∙ q ∙ same-key f kf b)));
+        (λ a. by-eq f d (λ b. a ∙ sym b) (λ b. absurd (o .key (rw a at ke) f (was-held f kf b) b (rw a at q ∙ same-key f kf b))))
+        (λ a. by-eq f d (λ b. absurd (o .key (rw b at kf) e (was-held e ke a) a (rw b at (sym q) ∙ same-key e ke a)))
+        (λ b. ti .keys e f (was-held e ke a) (was-held f kf b) (sym (same-key e ke a) ∙ q ∙ same-key f kf b)));
     taken = o .taken;
     idle = λ e k u i h. by-eq e d (λ a. rw a (o .idle (rw a at k) (rw a at u) i h)) (λ a.
         let b = before e k a in

@@ -7,7 +7,7 @@ use Rattle.book_ledger.specs.declared.words.Entry.{Entry}
 use Rattle.fact_keeps.specs.Views.{View, kind, number, key, life}
 use Rattle.fact_ownership.specs.Owned.{Found, Extent, Owns, Keyed, writtenBack, WrittenBack}
 use Rattle.fact_ownership.specs.{Reached.Lists, Always.Holds, Always.holds}
-use Rattle.fact_ownership.proofs.{Domain.SameFrame, Domain.same-frame, Domain.Leaves, Domain.same-owns, Sound.held, Sound.Sound, Sound.held-besides}
+use Rattle.fact_ownership.proofs.{Domain.SameFrame, Domain.same-frame, Domain.Leaves, Domain.was-keyed, Domain.same-owns, Sound.held, Sound.Sound, Sound.held-besides}
 use Rattle.fact_ownership.proofs.Tidy.{Tidy}
 
 -- written back is no teardown, and nothing else becomes one
@@ -17,7 +17,7 @@ leaves-written = record {
   listed = λ d. refl;
   children = λ d. refl;
   freed = λ d q. rw q refl;
-  keyed = λ d. choose-both (λ (n : ℕ). n ≡ TEARDOWN → d .life ≡ TEARDOWN) (eqb (d .life) BLOCKED-LIFE) _ _ (λ _ (q : WRITTEN-BACK ≡ TEARDOWN). absurd (omega arith)) (λ _ q. q);
+  keyed = λ d. choose-both (λ (n : ℕ). n ≡ TEARDOWN → d .life ≡ TEARDOWN) (eqb (d .life) BLOCKED-LIFE) _ _ (λ _ q. absurd (omega arith)) (λ _ q. q);
 }
 
 -- every frame, control page, entry and in-use bit is as it was, and of the domains the lifecycle moved as writing back moves it
@@ -60,10 +60,8 @@ module _ (z : Extent) {s s′ : View} (p : Swept s s′) where
     now : (e : ℕ) → kind s e ≡ TDR → s′ .domain (number s′ e) ≡ writtenBack (s .domain (number s e))
     now e k = ap (s′ .domain) (same e .number) ∙ p .domains e k
 
-    was-keyed : (e : ℕ) → Keyed s′ e → Keyed s e
-    was-keyed e k =
-        let ke = sym (same e .kind) ∙ k .tdr in
-        record { tdr = ke; held = λ q. k .held (ap (λ (x : Domain). x .life) (now e ke) ∙ leaves-written .freed (s .domain (number s e)) q) }
+    before : (e : ℕ) → Keyed s′ e → Keyed s e
+    before e k = let ke = sym (same e .kind) ∙ k .tdr in was-keyed leaves-written z s s′ e (written-back e ke) ke k
 
     same-key : (e : ℕ) → kind s e ≡ TDR → key s′ (number s′ e) ≡ key s (number s e)
     same-key e k = ap (λ (x : Domain). x .key) (now e k)
@@ -73,7 +71,7 @@ module _ (z : Extent) {s s′ : View} (p : Swept s s′) where
 
     pub swept-tidy : Tidy z s → Tidy z s′
     swept-tidy ti = record {
-      keys = λ d e kd ke q. let d′ = was-keyed d kd in let e′ = was-keyed e ke in ti .keys d e d′ e′ (sym (same-key d (d′ .tdr)) ∙ q ∙ same-key e (e′ .tdr));
+      keys = λ d e kd ke q. let d′ = before d kd in let e′ = before e ke in ti .keys d e d′ e′ (sym (same-key d (d′ .tdr)) ∙ q ∙ same-key e (e′ .tdr));
       taken = λ b u. still-held b (ti .taken b (sym (p .uses b) ∙ u));
       idle = λ d k u i h.
           let ke = sym (same d .kind) ∙ k in

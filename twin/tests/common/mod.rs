@@ -55,6 +55,32 @@ pub const D: u64 = REPLAY_BASE;
 /// E, another domain.
 pub const E: u64 = REPLAY_BASE + 4096 * 20;
 
+/// Every call on D but keyfree, with operands that are in rule.
+pub fn calls_on_d() -> [Call; 14] {
+    let (domain, gpa, level, page) = (D, 0, 1, hpa(30));
+    [
+        Call::KeyConfig { domain },
+        Call::AddCx { domain, page },
+        Call::Init { domain },
+        Call::SeptAdd {
+            domain,
+            gpa,
+            level,
+            page,
+        },
+        Call::PageAdd { domain, gpa, page },
+        Call::Finalize { domain },
+        Call::PageAug { domain, gpa, page },
+        Call::Block { domain, gpa, level },
+        Call::Track { domain },
+        Call::Unblock { domain, gpa, level },
+        Call::PageRemove { domain, gpa },
+        Call::SeptRemove { domain, gpa, level },
+        Call::FlushDone { domain },
+        Call::ReadEntry { domain, gpa, level },
+    ]
+}
+
 /// One domain, D: frame 0, control pages 1 to 4, initialized.
 pub fn live() -> Machine {
     let mut machine = replay_machine();
