@@ -348,7 +348,7 @@ impl Machine {
         let entry = self.must_have_state(place, &[entry_state::NL_BLOCKED])?;
         self.must_be_tracked(domain, entry)?;
         let number = self.must_be_own(domain, entry)?;
-        if !self.tables[number].is_empty() {
+        if !self.tables[number].entries.iter().all(|e| e.is_free()) {
             return Err(Refusal::PagesRemain);
         }
         self.may_lose_child(domain)?;

@@ -2,25 +2,20 @@
 //! deep states: whole trees, blocked branches, teardown, empty stock, a full
 //! window.
 //!
-//! Each line is of one of these sorts. A *step* is a call meant to be accepted
-//! and to bring the state somewhere. A *miss* has operands in range but suits
-//! the state only by luck, or fails it by one detail. A *wrong operand* is one
-//! of those with a number spoiled, a *wrong text* one with its text spoiled: it
-//! is seldom readable yet, and an *unreadable* line never. A *read* changes
-//! nothing, nor does a *refusal*: these two are asked on a scene that is set
-//! first.
+//! Each line is one of four sorts. A *step* is a call meant to be accepted and
+//! to bring the state somewhere. A *miss* has operands in range but suits the
+//! state only by luck, or fails it by one detail. A *wrong operand* is one of
+//! those with a number spoiled. An *unreadable* line is one of those with its
+//! text spoiled.
 
-mod scene;
 mod spoil;
-
-use std::vec;
 
 use crate::calls::Call;
 use crate::levels::{GPA_LIMIT, LEVEL_SHIFT, TOP_LEVEL};
 use crate::range::{KEY_HIGHEST, KEY_LOWEST};
 use crate::replay::{replay_machine, MAX_LINES};
 use crate::rng::Rng;
-use crate::script::{parse, MAX_LINE};
+use crate::script::parse;
 use crate::state::{
     entry_state, frame_type, lifecycle, op_state, Entry, Machine, Record, CONTROL_PAGES, ENTRIES,
     FRAME_BYTES,
@@ -39,25 +34,16 @@ pub enum Kind {
     Churn,
     /// Mostly unreadable or invalid lines.
     Noise,
-    /// Unreadable lines alone.
-    Unreadable,
-    /// A scene, then reads, nearly all of them accepted.
-    Reads,
-    /// A scene, then calls that are refused.
-    Refusals,
 }
 
 impl Kind {
     /// Every kind.
-    pub const ALL: [Kind; 8] = [
+    pub const ALL: [Kind; 5] = [
         Kind::Mixed,
         Kind::Deep,
         Kind::Full,
         Kind::Churn,
         Kind::Noise,
-        Kind::Unreadable,
-        Kind::Reads,
-        Kind::Refusals,
     ];
 
     /// The kind's name on the command line.
@@ -68,9 +54,6 @@ impl Kind {
             Kind::Full => "full",
             Kind::Churn => "churn",
             Kind::Noise => "noise",
-            Kind::Unreadable => "unreadable",
-            Kind::Reads => "reads",
-            Kind::Refusals => "refusals",
         }
     }
 
@@ -79,18 +62,14 @@ impl Kind {
         Kind::ALL.into_iter().find(|kind| kind.name() == name)
     }
 
-    /// Weights of a step, a miss, a wrong operand, a wrong text, an unreadable
-    /// line, a read and a refusal.
-    fn sorts(self) -> [u64; 7] {
+    /// Weights of a step, a miss, a wrong operand and an unreadable line.
+    fn sorts(self) -> [u64; 4] {
         match self {
-            Kind::Mixed => [620, 240, 80, 60, 0, 0, 0],
-            Kind::Deep => [940, 45, 8, 7, 0, 0, 0],
-            Kind::Full => [960, 25, 8, 7, 0, 0, 0],
-            Kind::Churn => [820, 140, 25, 15, 0, 0, 0],
-            Kind::Noise => [120, 80, 250, 550, 0, 0, 0],
-            Kind::Unreadable => [0, 0, 0, 0, 1, 0, 0],
-            Kind::Reads => [0, 0, 0, 0, 0, 1, 0],
-            Kind::Refusals => [0, 0, 0, 0, 0, 0, 1],
+            Kind::Mixed => [620, 240, 80, 60],
+            Kind::Deep => [940, 45, 8, 7],
+            Kind::Full => [960, 25, 8, 7],
+            Kind::Churn => [820, 140, 25, 15],
+            Kind::Noise => [120, 80, 250, 550],
         }
     }
 }
@@ -113,9 +92,7 @@ pub fn generate_on(machine: Machine, seed: u64, lines: u64, kind: Kind) -> Vec<u
         script.extend_from_slice(&line);
         script.push(b'\n');
     }
-    // An empty line is one by its LF alone.
-    let ends_empty = script == b"\n" || script.ends_with(b"\n\n");
-    if lines > 0 && generator.rng.chance(250) && !ends_empty {
+    if lines > 0 && generator.rng.chance(250) {
         script.pop();
     }
     script
@@ -128,8 +105,6 @@ struct Generator {
     rng: Rng,
     machine: Machine,
     kind: Kind,
-    /// What is left of the calls that set the scene.
-    scene: vec::IntoIter<Call>,
     /// Keys that steps create domains with.
     keys: Vec<u64>,
     /// How many frames the window is brought to hold, for [`Kind::Full`].
@@ -176,15 +151,10 @@ impl Generator {
                 keys.swap_remove(drop);
             }
         }
-        let scene = match kind {
-            Kind::Reads | Kind::Refusals => scene::calls(&mut rng, &machine),
-            _ => Vec::new(),
-        };
         let mut generator = Generator {
             rng,
             machine,
             kind,
-            scene: scene.into_iter(),
             keys,
             goal: 0,
         };
@@ -193,9 +163,6 @@ impl Generator {
     }
 
     fn next_line(&mut self) -> Vec<u8> {
-        if let Some(call) = self.scene.next() {
-            return call.line();
-        }
         match self.rng.weighted(&self.kind.sorts()) {
             0 => self.step().line(),
             1 => self.miss().line(),
@@ -203,23 +170,9 @@ impl Generator {
                 let call = self.any_call();
                 spoil::operand(&mut self.rng, &self.machine, call)
             }
-            3 => {
+            _ => {
                 let call = self.any_call();
                 spoil::text(&mut self.rng, call)
-            }
-            4 => self.unreadable(),
-            5 => self.read().line(),
-            _ => self.refusal(),
-        }
-    }
-
-    fn unreadable(&mut self) -> Vec<u8> {
-        loop {
-            let call = self.miss();
-            let line = spoil::text(&mut self.rng, call);
-            // No line shall outweigh all others.
-            if parse(&line).is_none() && line.len() <= 10 * MAX_LINE {
-                return line;
             }
         }
     }
@@ -251,7 +204,7 @@ impl Generator {
             Kind::Mixed | Kind::Deep => 12,
             Kind::Full => 4,
             Kind::Churn => 60,
-            _ => 40,
+            Kind::Noise => 40,
         };
         // Beyond the stock only now and then.
         let unused = self.machine.records.iter().any(|record| !record.in_use);
@@ -386,7 +339,7 @@ impl Generator {
             Kind::Full if self.machine.used < self.goal => [20, 900, 2, 8, 4, 40, 0, 4, 12, 8, 0],
             Kind::Full => [2, 2, 2, 10, 4, 8, 900, 30, 12, 8, 1],
             Kind::Churn => [150, 250, 60, 90, 50, 40, 60, 60, 30, 30, 75],
-            _ => [150, 300, 30, 120, 60, 60, 90, 90, 40, 40, 15],
+            Kind::Noise => [150, 300, 30, 120, 60, 60, 90, 90, 40, 40, 15],
         }
     }
 
@@ -763,7 +716,8 @@ impl Generator {
 
     fn is_empty_table(&self, entry: Entry) -> bool {
         let table = self.machine.frames[entry.frame as usize].number as usize;
-        self.machine.tables[table].is_empty()
+        let entries = &self.machine.tables[table].entries;
+        entries.iter().all(|entry| entry.is_free())
     }
 
     /// A gpa and a level: mostly of an entry that isn't FREE or of its

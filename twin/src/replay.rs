@@ -3,7 +3,7 @@
 use std::io::{self, ErrorKind, Read, Write};
 
 use crate::answer::{Answer, Readout};
-use crate::script::{find, parse, MAX_LINE};
+use crate::script::{parse, MAX_LINE};
 use crate::state::{Machine, FRAME_BYTES};
 
 /// Window base of the replay.
@@ -105,7 +105,7 @@ impl<R: Read> Lines<R> {
         loop {
             let from = self.start;
             let unsearched = &self.buffer[from + searched..self.end];
-            if let Some(at) = find(b'\n', unsearched) {
+            if let Some(at) = find_feed(unsearched) {
                 let to = from + searched + at;
                 self.start = to + 1;
                 return Ok(Some(self.line(too_long, from, to)));
@@ -155,6 +155,25 @@ impl<R: Read> Lines<R> {
     }
 }
 
+/// The place of the first LF, looked for in eight bytes at a time.
+fn find_feed(bytes: &[u8]) -> Option<usize> {
+    const LOW: u64 = u64::from_ne_bytes([0x01; 8]);
+    const HIGH: u64 = u64::from_ne_bytes([0x80; 8]);
+    const FEEDS: u64 = u64::from_ne_bytes([b'\n'; 8]);
+    let (words, tail) = bytes.as_chunks::<8>();
+    for (index, word) in words.iter().enumerate() {
+        // A byte of the difference is zero where there is an LF, and the lowest
+        // such byte is the lowest one that borrows.
+        let difference = u64::from_le_bytes(*word) ^ FEEDS;
+        let zeros = difference.wrapping_sub(LOW) & !difference & HIGH;
+        if zeros != 0 {
+            return Some(8 * index + zeros.trailing_zeros() as usize / 8);
+        }
+    }
+    let at = tail.iter().position(|&byte| byte == b'\n')?;
+    Some(8 * words.len() + at)
+}
+
 /// Gathers whole lines and writes them out by the buffer.
 struct Output<W> {
     output: W,
@@ -195,11 +214,7 @@ impl<W: Write> Output<W> {
 
     fn number(&mut self, label: &str, number: u64) {
         self.text.extend_from_slice(label.as_bytes());
-        // Most numbers have a single digit.
-        match number {
-            0..=9 => self.text.push(b'0' + number as u8),
-            _ => push_decimal(&mut self.text, number),
-        }
+        push_decimal(&mut self.text, number);
     }
 
     fn end_line(&mut self) -> io::Result<()> {
@@ -218,29 +233,16 @@ impl<W: Write> Output<W> {
     }
 }
 
-/// The numbers from 00 to 99.
-const PAIRS: [[u8; 2]; 100] = {
-    let mut pairs = [[b'0'; 2]; 100];
-    let mut number = 0;
-    while number < 100 {
-        pairs[number] = [b'0' + (number / 10) as u8, b'0' + (number % 10) as u8];
-        number += 1;
-    }
-    pairs
-};
-
-/// Writes a number, two digits at a time.
 fn push_decimal(text: &mut Vec<u8>, mut number: u64) {
-    let mut pairs = [[0; 2]; 10];
-    let mut first = pairs.len();
-    while number > 99 {
+    let mut digits = [0; 20];
+    let mut first = digits.len();
+    loop {
         first -= 1;
-        pairs[first] = PAIRS[(number % 100) as usize];
-        number /= 100;
+        digits[first] = b'0' + (number % 10) as u8;
+        number /= 10;
+        if number == 0 {
+            break;
+        }
     }
-    match number {
-        0..=9 => text.push(b'0' + number as u8),
-        _ => text.extend_from_slice(&PAIRS[number as usize]),
-    }
-    text.extend_from_slice(pairs[first..].as_flattened());
+    text.extend_from_slice(&digits[first..]);
 }

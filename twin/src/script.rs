@@ -45,7 +45,7 @@ pub fn parse(line: &[u8]) -> Option<Call> {
     if line.len() > MAX_LINE {
         return None;
     }
-    let end = find(b'\t', line);
+    let end = line.iter().position(|&byte| byte == b'\t');
     let (name, rest) = line.split_at(end.unwrap_or(line.len()));
     let mut operands = Operands { rest };
     // The operands of each call stand in the order in which they are written.
@@ -128,24 +128,6 @@ pub fn parse(line: &[u8]) -> Option<Call> {
     operands.rest.is_empty().then_some(call)
 }
 
-/// The first place of a byte, looked for in eight bytes at a time.
-pub(crate) fn find(wanted: u8, bytes: &[u8]) -> Option<usize> {
-    const LOW: u64 = u64::from_ne_bytes([0x01; 8]);
-    const HIGH: u64 = u64::from_ne_bytes([0x80; 8]);
-    let (words, tail) = bytes.as_chunks::<8>();
-    for (index, word) in words.iter().enumerate() {
-        // A byte of the difference is zero where the wanted one is, and the
-        // lowest such byte is the lowest one that borrows.
-        let difference = u64::from_le_bytes(*word) ^ u64::from_ne_bytes([wanted; 8]);
-        let zeros = difference.wrapping_sub(LOW) & !difference & HIGH;
-        if zeros != 0 {
-            return Some(8 * index + zeros.trailing_zeros() as usize / 8);
-        }
-    }
-    let at = tail.iter().position(|&byte| byte == wanted)?;
-    Some(8 * words.len() + at)
-}
-
 /// What of a line is yet to be read, from the tab before a unit on.
 struct Operands<'a> {
     rest: &'a [u8],
@@ -168,47 +150,26 @@ impl Operands<'_> {
         self.number_behind(b"\tkey\t")
     }
 
-    /// The number that follows a unit and its tabs.
-    fn number_behind<const N: usize>(&mut self, unit: &[u8; N]) -> Option<u64> {
-        let (number, rest) = read_number(self.rest.strip_prefix(unit)?)?;
-        self.rest = rest;
+    /// The number that follows a unit and its tabs: decimal, at most 64 bits,
+    /// no leading zero. It ends at the first byte that is no digit.
+    fn number_behind(&mut self, unit: &[u8]) -> Option<u64> {
+        let text = self.rest.strip_prefix(unit)?;
+        let mut number = 0u64;
+        let mut length = 0;
+        for &byte in text {
+            let digit = byte.wrapping_sub(b'0');
+            if digit > 9 {
+                break;
+            }
+            number = number.checked_mul(10)?.checked_add(digit.into())?;
+            length += 1;
+        }
+        if length == 0 || (length > 1 && text[0] == b'0') {
+            return None;
+        }
+        self.rest = &text[length..];
         Some(number)
     }
-}
-
-/// The number at the head of a text, decimal, at most 64 bits, no leading zero,
-/// and what follows it. It ends at the first byte that is no digit.
-fn read_number(text: &[u8]) -> Option<(u64, &[u8])> {
-    let eight = text
-        .split_first_chunk()
-        .and_then(|(bytes, rest)| Some((eight_digits(*bytes)?, rest)));
-    let (mut number, mut rest) = eight.unwrap_or((0, text));
-    while let Some((byte, behind)) = rest.split_first() {
-        let digit = byte.wrapping_sub(b'0');
-        if digit > 9 {
-            break;
-        }
-        number = number.checked_mul(10)?.checked_add(digit.into())?;
-        rest = behind;
-    }
-    let length = text.len() - rest.len();
-    let in_rule = length == 1 || (length > 1 && text[0] != b'0');
-    in_rule.then_some((number, rest))
-}
-
-/// The number that eight digits make, taken as one word; `None` if a byte is no
-/// digit. In each step every other lane takes in the one behind it.
-fn eight_digits(bytes: [u8; 8]) -> Option<u64> {
-    const ZEROS: u64 = u64::from_ne_bytes([b'0'; 8]);
-    const HIGH: u64 = u64::from_ne_bytes([0x80; 8]);
-    const ABOVE_NINE: u64 = u64::from_ne_bytes([0x80 - 10; 8]);
-    let digits = u64::from_le_bytes(bytes) ^ ZEROS;
-    if (digits | digits.wrapping_add(ABOVE_NINE)) & HIGH != 0 {
-        return None;
-    }
-    let pairs = (10 * digits + (digits >> 8)) & 0x00ff_00ff_00ff_00ff;
-    let fours = (100 * pairs + (pairs >> 16)) & 0x0000_ffff_0000_ffff;
-    Some((10_000 * fours + (fours >> 32)) & 0xffff_ffff)
 }
 
 impl Call {

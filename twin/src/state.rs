@@ -154,16 +154,6 @@ pub struct Table {
     pub entries: [Entry; ENTRIES],
 }
 
-impl Table {
-    /// True if all entries are FREE.
-    pub(crate) fn is_empty(&self) -> bool {
-        // There is no way out of a group, so that its entries are taken at once.
-        let (groups, _) = self.entries.as_chunks::<32>();
-        let is_free = |group: &[Entry; 32]| group.iter().fold(true, |free, e| free & e.is_free());
-        groups.iter().all(is_free)
-    }
-}
-
 impl Default for Table {
     fn default() -> Self {
         Table {

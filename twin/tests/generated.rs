@@ -4,18 +4,8 @@ use std::collections::BTreeSet;
 
 use reefnettle_twin::{
     entry_state, frame_type, generate, generate_on, lifecycle, parse, replay, replay_machine, Call,
-    Entry, Kind, Machine, Readout, Record, FRAME_BYTES, MAX_LINE, REPLAY_BASE, REPLAY_CLEAR,
-    REPLAY_RAISE,
+    Entry, Kind, Machine, Readout, Record, FRAME_BYTES, REPLAY_BASE, REPLAY_CLEAR, REPLAY_RAISE,
 };
-
-/// The kinds that wander through all states; the others dwell in one.
-const WANDERING: [Kind; 5] = [
-    Kind::Mixed,
-    Kind::Deep,
-    Kind::Full,
-    Kind::Churn,
-    Kind::Noise,
-];
 
 fn lines(script: &[u8]) -> Vec<&[u8]> {
     let mut lines: Vec<&[u8]> = script.split(|&byte| byte == b'\n').collect();
@@ -116,16 +106,12 @@ fn check_ownership(machine: &Machine) {
     assert_eq!(used.count(), machine.used_frames());
 }
 
-/// A fresh machine with the replay's marks.
-fn fresh_machine(frames: usize, records: usize, tables: usize) -> Machine {
-    let mut machine = Machine::with_sizes(REPLAY_BASE, frames, records, tables);
+/// A fresh machine of the largest sizes, with the replay's marks.
+fn largest_machine() -> Machine {
+    let mut machine = Machine::with_sizes(REPLAY_BASE, 16384, 64, 256);
     assert!(machine.reset().is_accepted());
     assert!(machine.set_marks(REPLAY_RAISE, REPLAY_CLEAR).is_accepted());
     machine
-}
-
-fn largest_machine() -> Machine {
-    fresh_machine(16384, 64, 256)
 }
 
 /// Runs a script of that machine, and looks at it once in so many lines.
@@ -153,21 +139,10 @@ fn ownership_after_every_line() {
 
 #[test]
 fn ownership_at_the_largest_sizes() {
-    for kind in WANDERING {
+    for kind in Kind::ALL {
         let script = generate_on(largest_machine(), 1, 10_000, kind);
         let machine = check_script(largest_machine(), &script, 50);
         assert!(machine.in_range(), "{}", kind.name());
-    }
-}
-
-#[test]
-fn every_kind_fits_any_sizes() {
-    for kind in Kind::ALL {
-        for fresh in [largest_machine(), fresh_machine(512, 1, 4)] {
-            let script = generate_on(fresh.clone(), 1, 1_000, kind);
-            let machine = check_script(fresh, &script, 50);
-            assert!(machine.in_range(), "{}", kind.name());
-        }
     }
 }
 
@@ -211,8 +186,8 @@ fn answers(script: &[u8]) -> [usize; 16] {
 }
 
 #[test]
-fn every_answer_occurs_in_every_wandering_kind() {
-    for kind in WANDERING {
+fn every_answer_occurs_in_every_kind() {
+    for kind in Kind::ALL {
         let mut counts = [0; 16];
         for seed in 1..=3 {
             let some = answers(&generate(seed, 10_000, kind));
@@ -265,8 +240,8 @@ impl WriteBacks {
 }
 
 #[test]
-fn every_wandering_kind_writes_back_and_frees_keys_too_soon() {
-    for kind in WANDERING {
+fn every_kind_writes_back_and_frees_keys_too_soon() {
+    for kind in Kind::ALL {
         let mut met = WriteBacks::default();
         for seed in 1..=3 {
             let script = generate(seed, 10_000, kind);
@@ -316,95 +291,6 @@ fn full_scripts_light_the_lamp_and_put_it_out() {
     }
 }
 
-fn is_number(field: &str) -> bool {
-    !field.is_empty() && field.bytes().all(|byte| byte.is_ascii_digit())
-}
-
-/// Some of the ways to be unreadable, and whether a line is so.
-fn unreadable_ways(line: &[u8]) -> [bool; 7] {
-    let text = String::from_utf8_lossy(line);
-    let fields: Vec<&str> = text.split('\t').collect();
-    let numbers = fields.iter().filter(|field| is_number(field));
-    [
-        line.is_empty(),
-        line.len() > MAX_LINE,
-        fields[0] == "creates",
-        fields.contains(&"pfn"),
-        fields.len().is_multiple_of(2),
-        numbers.clone().any(|n| n.len() > 1 && n.starts_with('0')),
-        numbers.clone().any(|n| n.parse::<u64>().is_err()),
-    ]
-}
-
-#[test]
-fn unreadable_scripts_are_so_in_many_ways() {
-    for seed in 1..=3 {
-        let script = generate(seed, 10_000, Kind::Unreadable);
-        assert_eq!(answers(&script)[15], 10_000);
-        let mut counts = [0; 7];
-        for line in lines(&script) {
-            for (count, met) in counts.iter_mut().zip(unreadable_ways(line)) {
-                *count += u64::from(met);
-            }
-        }
-        assert!(counts.iter().all(|&count| count >= 10), "{counts:?}");
-    }
-}
-
-fn is_read(call: Call) -> bool {
-    matches!(call, Call::ReadPage { .. } | Call::ReadEntry { .. })
-}
-
-/// The levels and states that an entry of a scene's tree can have.
-fn levels_and_states() -> BTreeSet<(u64, u64)> {
-    use entry_state::*;
-    let pages = [FREE, MAPPED, PENDING, BLOCKED, PENDING_BLOCKED].map(|state| (0, state));
-    let tables =
-        (1..=3).flat_map(|level| [FREE, NL_MAPPED, NL_BLOCKED].map(|state| (level, state)));
-    let all = pages.into_iter().chain(tables);
-    all.map(|(level, state)| (level, state.into())).collect()
-}
-
-#[test]
-fn reads_are_accepted_and_meet_every_level_state_and_type() {
-    for seed in 1..=3 {
-        let script = generate(seed, 10_000, Kind::Reads);
-        let mut machine = replay_machine();
-        let calls: Vec<Call> = lines(&script).into_iter().filter_map(parse).collect();
-        let first = calls.iter().position(|&call| is_read(call)).unwrap();
-        let (set_up, reads) = calls.split_at(first);
-        assert!(reads.iter().all(|&call| is_read(call)));
-        for &call in set_up {
-            assert!(machine.call_unchecked(call).is_accepted());
-        }
-        let (mut entries, mut types) = (BTreeSet::new(), BTreeSet::new());
-        let mut accepted = 0;
-        for &call in reads {
-            let answer = machine.call_unchecked(call);
-            accepted += u64::from(answer.is_accepted());
-            match answer.readout {
-                Readout::Page { kind, .. } => types.insert(kind),
-                Readout::Entry { level, state, .. } => entries.insert((level, state)),
-                _ => false,
-            };
-        }
-        assert!(accepted >= 9_000, "{accepted}");
-        assert_eq!(entries, levels_and_states());
-        assert_eq!(types, (frame_type::NDA..=frame_type::REG).collect());
-    }
-}
-
-#[test]
-fn refusals_are_refused_with_every_answer() {
-    for seed in 1..=3 {
-        let counts = answers(&generate(seed, 10_000, Kind::Refusals));
-        let refused = &counts[1..=11];
-        assert!(refused.iter().all(|&count| count >= 100), "{counts:?}");
-        assert!(refused.iter().sum::<usize>() >= 9_000, "{counts:?}");
-        assert_eq!(counts[12..], [0; 4]);
-    }
-}
-
 #[test]
 fn scripts_have_their_length_and_follow_from_the_seed() {
     for kind in Kind::ALL {
@@ -413,19 +299,11 @@ fn scripts_have_their_length_and_follow_from_the_seed() {
         for length in [1, 2, 500, 10_050] {
             let script = generate(9, length, kind);
             assert_eq!(script, generate(9, length, kind));
-            assert_eq!(length_of(&script), length);
+            let ended = script.ends_with(b"\n");
+            let feeds = script.iter().filter(|&&byte| byte == b'\n').count();
+            assert_eq!(feeds as u64 + u64::from(!ended), length);
         }
         assert_ne!(generate(1, 100, kind), generate(2, 100, kind));
     }
-    // Some of these end with an empty line.
-    for seed in 0..500 {
-        assert_eq!(length_of(&generate(seed, 2, Kind::Unreadable)), 2);
-    }
     assert_eq!(Kind::from_name("other"), None);
-}
-
-fn length_of(script: &[u8]) -> u64 {
-    let ended = script.ends_with(b"\n");
-    let feeds = script.iter().filter(|&&byte| byte == b'\n').count();
-    feeds as u64 + u64::from(!ended)
 }

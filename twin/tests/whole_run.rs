@@ -282,24 +282,6 @@ fn numbers_at_their_ends() {
 }
 
 #[test]
-fn any_byte_at_any_place_of_a_number() {
-    for length in 1..=20 {
-        for place in 0..length {
-            for byte in 0..=u8::MAX {
-                let mut text = b"12345678901234567890"[..length].to_vec();
-                text[place] = byte;
-                let digits = text.iter().all(u8::is_ascii_digit);
-                let in_rule = digits && (length == 1 || text[0] != b'0');
-                let number = in_rule.then(|| String::from_utf8_lossy(&text).parse().ok());
-                let line = [b"track\thpa\t", &text[..]].concat();
-                let expected = number.flatten().map(|domain| Call::Track { domain });
-                assert_eq!(parse(&line), expected, "{text:?}");
-            }
-        }
-    }
-}
-
-#[test]
 fn long_lines_are_one_line_each() {
     let good = "readpage\thpa\t1073741824";
     for length in [
@@ -332,14 +314,6 @@ fn unreadable_lines_are_numbered() {
         "bytes\t4096\tframes\t1024\nline\t1\tanswer\t15\nline\t2\tanswer\t15\n\
          line\t3\tanswer\t1\nused\t0\tlamp\t0\n"
     );
-}
-
-#[test]
-fn every_line_has_its_number() {
-    let output = run("\n".repeat(10_000));
-    for (number, line) in (1..=10_000).zip(output.lines().skip(1)) {
-        assert_eq!(line, format!("line\t{number}\tanswer\t15"));
-    }
 }
 
 #[test]

@@ -7,7 +7,7 @@ use crate::tables;
 use base_units::address::Pfn;
 
 // 1 for a frame that isn't NDA.
-pub fn one_used(frames: &[u64], frame: Pfn) -> u64
+fn one_used(frames: &[u64], frame: Pfn) -> u64
     ensures is { result ≡ one_used frames.now frame.0 }
     ensures small { result ≤ 1 }
 {

@@ -20,7 +20,7 @@ pub struct Reply {
     pub gauge: Gauge,
 }
 
-pub fn plan_of(
+fn plan_of(
     base: Hpa,
     frames: &[u64],
     domains: &[u64],

@@ -1,10 +1,10 @@
 -- Document 01, "The script": a line of the output is a row of words and numbers, parted by tabs.
-use Rattle.base_rules.specs.Basics.{ℕ, ◌+◌, ◌/◌, ◌%◌, Bool, List, [], ◌∷◌, ◌++◌, ltb, length, set, choose}
+use Rattle.base_rules.specs.Basics.{ℕ, ◌+◌, Bool, List, [], ◌∷◌, ◌++◌, ltb, length, set, choose}
 use Rattle.base_units.specs.{Limits.frame_bytes, declared.address.Hpa.Hpa}
 use Rattle.base_calls.specs.Answers.{number_of}
 use Rattle.base_calls.specs.declared.Answer.{Answer, TheVariants.Done, TheVariants.Page, TheVariants.Entry, TheVariants.No, TheVariants.Stop}
 use Rattle.door_script.specs.Text.{bytes, lf}
-use Rattle.base_numbers.specs.Number.{nought, decimal}
+use Rattle.base_numbers.specs.Number.{decimal}
 
 -- a buffer, and how much of it is written
 pub record Pen : Type 0 where
@@ -21,13 +21,6 @@ wrote_byte b p = choose (ltb p.at (length p.buffer)) (pen (set p.buffer p.at b) 
 unfoldable pub wrote : List ℕ → Pen → Pen
 wrote [] p = p
 wrote (b ∷ bs) p = wrote bs (wrote_byte b p)
-
--- the tens and the ones of a number below 100, and how it is written
-abbrev pub two_digits : ℕ → List ℕ
-two_digits n = (nought + n / 10) ∷ (nought + n % 10) ∷ []
-
-unfoldable pub small_digits : ℕ → List ℕ
-small_digits n = choose (ltb n 10) ((nought + n) ∷ []) (two_digits n)
 
 -- a word and a number
 abbrev pub pair : List ℕ → ℕ → List ℕ
@@ -53,22 +46,16 @@ read_out (Stop number level state) = level_state level state
 read_out (Page type owner) = type_owner type owner
 read_out (Entry level state hpa) = level_state_hpa level state hpa
 
--- the most bytes of what an answer reads out, of an answer's line, and of the first line or the last: a number of 64 bits has 20 digits at most
-abbrev pub read_most : ℕ
-read_most = 79
-
-abbrev pub answer_most : ℕ
-answer_most = 133
-
-abbrev pub pairs_most : ℕ
-pairs_most = 55
-
 -- "line N answer A", and what the answer reads out
 unfoldable pub line_with : ℕ → ℕ → Answer → List ℕ
 line_with line number a = pairs (bytes "line\t") line (bytes "\tanswer\t") number ++ (read_out a ++ (lf ∷ []))
 
 abbrev pub answer_line : ℕ → Answer → List ℕ
 answer_line line a = line_with line (number_of a) a
+
+-- "15: script line unreadable"
+abbrev pub unreadable_line : ℕ → List ℕ
+unreadable_line line = line_with line 15 Done
 
 unfoldable pub pairs_line : List ℕ → ℕ → List ℕ → ℕ → List ℕ
 pairs_line v m w n = pairs v m w n ++ (lf ∷ [])

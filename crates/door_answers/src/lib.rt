@@ -1,9 +1,8 @@
-// Answers, written as lines into a lent buffer, as much as it has room for. Each function writes from `at` on, and gives the place behind what it wrote.
-ghost use Rattle.std.specs.Prelude.{◌≡◌, ◌++◌, ◌+◌, ◌-◌, ◌≤◌, length};
+// Answers, written as lines into a lent buffer, as much as it has room for. Each function gives the place behind what it wrote.
+ghost use Rattle.std.specs.Prelude.{◌≡◌, ◌++◌};
 ghost use Rattle.base_numbers.specs.Number.{decimal};
-ghost use Rattle.door_answers.specs.Answers.{pen, wrote_byte, wrote, two_digits, small_digits, level_state, type_owner, level_state_hpa, read_out};
-ghost use Rattle.door_answers.specs.Answers.{line_with, answer_line, pairs_line, first_line, lamp_number, last_line};
-ghost use Rattle.door_answers.specs.Answers.{read_most, answer_most, pairs_most};
+ghost use Rattle.door_answers.specs.Answers.{pen, wrote_byte, wrote, pairs, level_state, type_owner, level_state_hpa};
+ghost use Rattle.door_answers.specs.Answers.{read_out, line_with, answer_line, unreadable_line, pairs_line, first_line, lamp_number, last_line};
 
 use base_calls;
 use base_calls::Answer;
@@ -11,6 +10,9 @@ use base_numbers::ZERO;
 use base_units::address::Hpa;
 use base_units::limits::FRAME_BYTES;
 use door_script::line::LF;
+
+// The answer to a line that can't be read.
+const UNREADABLE: u64 = 15;
 
 fn put(out: &mut [u8], at: usize, byte: u8) -> usize
     ensures { pen out.new result ≡ wrote_byte byte (pen out.old at) }
@@ -22,18 +24,7 @@ fn put(out: &mut [u8], at: usize, byte: u8) -> usize
     at
 }
 
-// How many bytes there is room for from `at` on.
-fn room_of(out: &[u8], at: usize) -> usize
-    ensures { result ≡ length out.now - at }
-{
-    if at < out.len() {
-        return out.len() - at;
-    }
-    0
-}
-
-// A byte at a time, until there is no room.
-fn put_bytes(out: &mut [u8], from: usize, text: &[u8]) -> usize
+fn put_text(out: &mut [u8], from: usize, text: &[u8]) -> usize
     ensures { pen out.new result ≡ wrote text.now (pen out.old from) }
 {
     let mut at = from;
@@ -45,60 +36,14 @@ fn put_bytes(out: &mut [u8], from: usize, text: &[u8]) -> usize
     at
 }
 
-// Where there is room for the whole text, no byte is tested: of a word that is known beforehand, the loop becomes a store or two.
-fn put_text(out: &mut [u8], from: usize, text: &[u8]) -> usize
-    ensures { pen out.new result ≡ wrote text.now (pen out.old from) }
-{
-    if text.len() > room_of(out, from) {
-        return put_bytes(out, from, text);
-    }
-    let mut i = 0;
-    while i < text.len() {
-        out[from + i] = text[i];
-        i += 1;
-    }
-    from + i
-}
-
-fn put_two(out: &mut [u8], at: usize, n: u8) -> usize
-    ensures { pen out.new result ≡ wrote (two_digits n) (pen out.old at) }
-{
-    let next = put(out, at, ZERO + n / 10);
-    put(out, next, ZERO + n % 10)
-}
-
-fn put_small(out: &mut [u8], at: usize, n: u8) -> usize
-    ensures { pen out.new result ≡ wrote (small_digits n) (pen out.old at) }
-{
-    if n < 10 {
-        return put(out, at, ZERO + n);
-    }
-    put_two(out, at, n)
-}
-
-// Two digits at a time, and up to four, as a line's number has, without a call.
-fn put_large(out: &mut [u8], at: usize, n: u64) -> usize
-    ensures { pen out.new result ≡ wrote (decimal n) (pen out.old at) }
-{
-    if n < 100 {
-        return put_small(out, at, n as u8);
-    }
-    if n < 10000 {
-        let next = put_small(out, at, (n / 100) as u8);
-        return put_two(out, next, (n % 100) as u8);
-    }
-    let next = put_large(out, at, n / 100);
-    put_two(out, next, (n % 100) as u8)
-}
-
-// Most numbers have one digit: it is put without a call.
 fn put_number(out: &mut [u8], at: usize, n: u64) -> usize
     ensures { pen out.new result ≡ wrote (decimal n) (pen out.old at) }
 {
     if n < 10 {
         return put(out, at, ZERO + n as u8);
     }
-    put_large(out, at, n)
+    let next = put_number(out, at, n / 10);
+    put(out, next, ZERO + (n % 10) as u8)
 }
 
 fn put_pair(out: &mut [u8], at: usize, word: &[u8], n: u64) -> usize
@@ -108,25 +53,27 @@ fn put_pair(out: &mut [u8], at: usize, word: &[u8], n: u64) -> usize
     put_number(out, next, n)
 }
 
-fn put_level(out: &mut [u8], at: usize, level: usize, state: u64) -> usize
-    ensures is { pen out.new result ≡ wrote (level_state level state) (pen out.old at) }
-    ensures short { length (level_state level state) ≤ read_most }
+fn put_pairs(out: &mut [u8], at: usize, v: &[u8], m: u64, w: &[u8], n: u64) -> usize
+    ensures { pen out.new result ≡ wrote (pairs v.now m w.now n) (pen out.old at) }
 {
-    let next = put_pair(out, at, b"\tlevel\t", level as u64);
-    put_pair(out, next, b"\tstate\t", state)
+    let next = put_pair(out, at, v, m);
+    put_pair(out, next, w, n)
+}
+
+fn put_level(out: &mut [u8], at: usize, level: usize, state: u64) -> usize
+    ensures { pen out.new result ≡ wrote (level_state level state) (pen out.old at) }
+{
+    put_pairs(out, at, b"\tlevel\t", level as u64, b"\tstate\t", state)
 }
 
 fn put_page(out: &mut [u8], at: usize, kind: u64, owner: Hpa) -> usize
-    ensures is { pen out.new result ≡ wrote (type_owner kind owner) (pen out.old at) }
-    ensures short { length (type_owner kind owner) ≤ read_most }
+    ensures { pen out.new result ≡ wrote (type_owner kind owner) (pen out.old at) }
 {
-    let next = put_pair(out, at, b"\ttype\t", kind);
-    put_pair(out, next, b"\towner\t", owner.0)
+    put_pairs(out, at, b"\ttype\t", kind, b"\towner\t", owner.0)
 }
 
 fn put_entry(out: &mut [u8], at: usize, level: usize, state: u64, hpa: Hpa) -> usize
-    ensures is { pen out.new result ≡ wrote (level_state_hpa level state hpa) (pen out.old at) }
-    ensures short { length (level_state_hpa level state hpa) ≤ read_most }
+    ensures { pen out.new result ≡ wrote (level_state_hpa level state hpa) (pen out.old at) }
 {
     let next = put_level(out, at, level, state);
     put_pair(out, next, b"\thpa\t", hpa.0)
@@ -134,8 +81,7 @@ fn put_entry(out: &mut [u8], at: usize, level: usize, state: u64, hpa: Hpa) -> u
 
 // What an answer reads out.
 fn put_read(out: &mut [u8], at: usize, answer: Answer) -> usize
-    ensures is { pen out.new result ≡ wrote (read_out answer) (pen out.old at) }
-    ensures short { length (read_out answer) ≤ read_most }
+    ensures { pen out.new result ≡ wrote (read_out answer) (pen out.old at) }
 {
     match answer {
         Answer::Done => at,
@@ -146,40 +92,40 @@ fn put_read(out: &mut [u8], at: usize, answer: Answer) -> usize
     }
 }
 
-fn write_line(out: &mut [u8], at: usize, line: u64, number: u64, answer: Answer) -> usize
-    ensures is { pen out.new result ≡ wrote (line_with line number answer) (pen out.old at) }
-    ensures short { length (line_with line number answer) ≤ answer_most }
+fn write_line(out: &mut [u8], line: u64, number: u64, answer: Answer) -> usize
+    ensures { pen out.new result ≡ wrote (line_with line number answer) (pen out.old 0) }
 {
-    let told = put_pair(out, at, b"line\t", line);
-    let read = put_pair(out, told, b"\tanswer\t", number);
-    let next = put_read(out, read, answer);
+    let at = put_pairs(out, 0, b"line\t", line, b"\tanswer\t", number);
+    let next = put_read(out, at, answer);
     put(out, next, LF)
 }
 
 // The answer to a line, by the line's number from 1.
-pub fn write_answer(out: &mut [u8], at: usize, line: u64, answer: Answer) -> usize
-    ensures is { pen out.new result ≡ wrote (answer_line line answer) (pen out.old at) }
-    ensures short { length (answer_line line answer) ≤ answer_most }
+pub fn write_answer(out: &mut [u8], line: u64, answer: Answer) -> usize
+    ensures { pen out.new result ≡ wrote (answer_line line answer) (pen out.old 0) }
 {
     let v = base_calls::values_of(answer);
-    write_line(out, at, line, v.number, answer)
+    write_line(out, line, v.number, answer)
 }
 
-fn write_pairs(out: &mut [u8], at: usize, v: &[u8], m: u64, w: &[u8], n: u64) -> usize
-    ensures is { pen out.new result ≡ wrote (pairs_line v.now m w.now n) (pen out.old at) }
-    ensures short { length (pairs_line v.now m w.now n) ≤ length v.now + length w.now + 41 }
+pub fn write_unreadable(out: &mut [u8], line: u64) -> usize
+    ensures { pen out.new result ≡ wrote (unreadable_line line) (pen out.old 0) }
 {
-    let first = put_pair(out, at, v, m);
-    let next = put_pair(out, first, w, n);
-    put(out, next, LF)
+    write_line(out, line, UNREADABLE, Answer::Done)
+}
+
+fn write_pairs(out: &mut [u8], v: &[u8], m: u64, w: &[u8], n: u64) -> usize
+    ensures { pen out.new result ≡ wrote (pairs_line v.now m w.now n) (pen out.old 0) }
+{
+    let at = put_pairs(out, 0, v, m, w, n);
+    put(out, at, LF)
 }
 
 // The output's first line: the sizes.
-pub fn write_first(out: &mut [u8], at: usize, frames: u64) -> usize
-    ensures is { pen out.new result ≡ wrote (first_line frames) (pen out.old at) }
-    ensures short { length (first_line frames) ≤ pairs_most }
+pub fn write_first(out: &mut [u8], frames: u64) -> usize
+    ensures { pen out.new result ≡ wrote (first_line frames) (pen out.old 0) }
 {
-    write_pairs(out, at, b"bytes\t", FRAME_BYTES, b"\tframes\t", frames)
+    write_pairs(out, b"bytes\t", FRAME_BYTES, b"\tframes\t", frames)
 }
 
 fn lit(lamp: bool) -> u64
@@ -192,9 +138,8 @@ fn lit(lamp: bool) -> u64
 }
 
 // The output's last line: the frames that aren't NDA, and the lamp.
-pub fn write_last(out: &mut [u8], at: usize, used: u64, lamp: bool) -> usize
-    ensures is { pen out.new result ≡ wrote (last_line used lamp) (pen out.old at) }
-    ensures short { length (last_line used lamp) ≤ pairs_most }
+pub fn write_last(out: &mut [u8], used: u64, lamp: bool) -> usize
+    ensures { pen out.new result ≡ wrote (last_line used lamp) (pen out.old 0) }
 {
-    write_pairs(out, at, b"used\t", used, b"\tlamp\t", lit(lamp))
+    write_pairs(out, b"used\t", used, b"\tlamp\t", lit(lamp))
 }

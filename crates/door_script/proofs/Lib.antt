@@ -1,7 +1,5 @@
 pub mod Marks
 pub mod Ons
-pub mod Texts
+pub mod Fits
 pub mod Rows
-pub mod Numerals
-pub mod Operands
-pub mod Taking
+pub mod Fields

@@ -1,4 +1,3 @@
 pub mod Text
 pub mod Rows
 pub mod Lines
-pub mod Parts

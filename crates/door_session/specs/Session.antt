@@ -1,31 +1,26 @@
--- What a whole line of a script comes to within a run, with its answer written behind what the output has.
-use Rattle.base_rules.specs.Basics.{ℕ, List, given}
+-- What a whole line of a script comes to, on any tables and gauge, with its answer written behind what the output has.
+use Rattle.base_rules.specs.Basics.{ℕ, List}
 use Rattle.base_units.specs.declared.address.Hpa.{Hpa}
+use Rattle.book_gauge.specs.declared.Gauge.{Gauge}
 use Rattle.book_ledger.specs.Tables.{Tables}
-use Rattle.base_calls.specs.declared.Ask.{Ask}
-use Rattle.call_run.specs.{Runs.next_of, declared.Run.Run}
-use Rattle.door_answers.specs.Answers.{Pen, wrote, answer_line}
-use Rattle.door_script.specs.{Lines.line_of, declared.line.Line.Line}
+use Rattle.call_host.specs.Calls.{call_of}
+use Rattle.door_answers.specs.Answers.{Pen, wrote, answer_line, unreadable_line}
+use Rattle.door_script.specs.Lines.{line_of}
+use Rattle.door_script.specs.declared.line.Line.{Line, TheVariants.Call, TheVariants.Unreadable}
 
--- a line as an ask: one that can't be read names nothing ("15: script line unreadable"), another is its call
-unfoldable pub ask_from : Line → Ask
-ask_from (Line.Unreadable) = Ask.Unreadable
-ask_from (Line.Call c) = Ask.Host c
-
-unfoldable pub ask_in : List ℕ → Ask
-ask_in text = given (line_of text) ask_from
-
--- the tables, what the run knows, and the output after a line
+-- the tables, the gauge and the output after a line
 pub record Replies : Type 0 where
   pub tables : Tables
-  pub run : Run
+  pub gauge : Gauge
   pub out : Pen
 
-abbrev pub replied : Tables → Run → Pen → Replies
-replied t r p = record { tables = t; run = r; out = p }
+abbrev pub replied : Tables → Gauge → Pen → Replies
+replied t g p = record { tables = t; gauge = g; out = p }
 
-unfoldable pub answered : Hpa → Tables → Run → List ℕ → ℕ → Pen → Replies
-answered base t r text n p =
-    given (ask_in text) λ a.
-    given (next_of base t r a) λ k.
-    replied k.tables k.run (wrote (answer_line n k.answer) p)
+-- an unreadable line answers 15 and changes nothing; another is its call
+unfoldable pub on_line : Hpa → Tables → Gauge → ℕ → Pen → Line → Replies
+on_line base t g n p (Unreadable) = replied t g (wrote (unreadable_line n) p)
+on_line base t g n p (Call c) = replied (call_of base t g c).tables (call_of base t g c).gauge (wrote (answer_line n (call_of base t g c).answer) p)
+
+unfoldable pub answered : Hpa → Tables → Gauge → List ℕ → ℕ → Pen → Replies
+answered base t g text n p = on_line base t g n p (line_of text)

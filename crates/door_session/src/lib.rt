@@ -1,56 +1,51 @@
-// A whole line of a script within a run: read, asked, and its answer written. Everything is by value or on lent slices.
-ghost use Rattle.std.specs.Prelude.{◌≡◌, ◌≤◌, length};
+// A replay, without its input and output: what a whole line of a script answers. Everything is by value or on lent slices, so that the
+// program above reads, writes and decides nothing.
+ghost use Rattle.std.specs.Prelude.{◌≡◌};
 ghost use Rattle.book_ledger.specs.Tables.{lent};
-ghost use Rattle.call_run.specs.Runs.{next_of};
-ghost use Rattle.door_answers.specs.Answers.{pen, answer_line, answer_most};
-ghost use Rattle.door_session.specs.Session.{ask_in, answered, replied};
+ghost use Rattle.door_answers.specs.Answers.{pen, wrote};
+ghost use Rattle.door_session.specs.Session.{answered, replied};
 
 use base_calls::Ask;
 use base_units::address::Hpa;
-use call_run::Run;
+use book_gauge::Gauge;
 use door_script::line;
 use door_script::line::Line;
 
-// A line answered: what the run knows afterwards, and the place behind the answer in the lent output.
+// A line answered: the gauge afterwards, and how many bytes of the answer stand in the lent output.
 #[derive(Drop)]
 pub struct Replied {
-    pub run: Run,
+    pub gauge: Gauge,
     pub wrote: usize,
 }
 
-fn ask_in(text: &[u8]) -> Ask
-    ensures { result ≡ ask_in text.now }
-{
-    match line::read_line(text) {
-        Line::Unreadable => Ask::Unreadable,
-        Line::Call(c) => Ask::Host(c),
-    }
-}
-
-// The line numbered `number`, run on the lent tables, with its answer written from `at` on.
+// The line numbered `number`, run on the lent tables.
 pub fn reply(
     base: Hpa,
     frames: &mut [u64],
     domains: &mut [u64],
     stock: &mut [u64],
     entries: &mut [u32],
-    known: Run,
+    g: Gauge,
     text: &[u8],
     number: u64,
     out: &mut [u8],
-    at: usize,
 ) -> Replied
-    ensures is { replied (lent frames.new domains.new stock.new entries.new) result.run
+    ensures { replied (lent frames.new domains.new stock.new entries.new) result.gauge
         (pen out.new result.wrote)
-        ≡ answered base (lent frames.old domains.old stock.old entries.old) known
-        text.now number (pen out.old at) }
-    ensures short { length (answer_line number (next_of base (lent frames.old domains.old stock.old
-        entries.old) known (ask_in text.now)).answer) ≤ answer_most }
+        ≡ answered base (lent frames.old domains.old stock.old entries.old) g
+        text.now number (pen out.old 0) }
 {
-    let ask = ask_in(text);
-    let r = call_run::next_ask(base, frames, domains, stock, entries, known, ask);
-    let answer = r.answer;
-    let run = r.run;
-    let wrote = door_answers::write_answer(out, at, number, answer);
-    Replied { run, wrote }
+    match line::read_line(text) {
+        Line::Unreadable => {
+            let wrote = door_answers::write_unreadable(out, number);
+            Replied { gauge: g, wrote }
+        }
+        Line::Call(c) => {
+            let r = door_asks::answer_ask(base, frames, domains, stock, entries, g, Ask::Host(c));
+            let a = r.answer;
+            let gauge = r.gauge;
+            let wrote = door_answers::write_answer(out, number, a);
+            Replied { gauge, wrote }
+        }
+    }
 }

@@ -1,5 +1,5 @@
 -- The nine lines of the paper's run, byte for byte.
-use Rattle.base_rules.specs.Basics.{◌≡◌, List, [], ◌∷◌, ◌++◌, ℕ, ◌+◌, ◌/◌, ◌%◌, true, false, ltb, length, given}
+use Rattle.base_rules.specs.Basics.{◌≡◌, List, [], ◌∷◌, ◌++◌, ℕ, ◌+◌, ◌/◌, ◌%◌, true, false, ltb, length}
 use Rattle.base_rules.proofs.Facts.{refl, ltb-true, ltb-false}
 use Prim.Native.String.{String}
 use Rattle.book_ledger.specs.Tables.{Tables}
@@ -10,10 +10,8 @@ use Rattle.call_host.specs.Calls.{plan_of, settled, rule_of}
 use Rattle.base_numbers.specs.Number.{nought, decimal}
 use Rattle.base_numbers.proofs.Decimals.{decimal_one, decimal_more}
 use Rattle.door_script.specs.{Text.bytes, Lines.line_of, declared.line.Line.Line}
-use Rattle.door_asks.specs.Asks.{ask_of}
-use Rattle.door_answers.specs.Answers.{read_out, line_with, answer_line}
-use Rattle.door_session.specs.Session.{ask_from, ask_in}
-use Rattle.door_replay.specs.Run.{said, desk_after, too_many}
+use Rattle.door_answers.specs.Answers.{read_out, line_with, answer_line, unreadable_line}
+use Rattle.door_session.specs.Session.{on_line, answered}
 use Rattle.fact_cases.specs.{Cases.base, Cases.fresh_tables, Cases.run, Run.Spoken, Run.spoken, Run.heard, Run.Says, Run.AllSay, Run.whole_run}
 use Rattle.fact_cases.proofs.{Right.past_13, Right.run_ok, Right.start, Open.call_open, Open.line_open}
 
@@ -23,21 +21,21 @@ unfolding run
 run_append t [] ds = refl
 run_append t (c ∷ cs) ds = run_append (carried t (plan_of base t c)).tables cs ds
 
-calls : (n : ℕ) (before : List Call) (text answer : String) (c : Call) (a : Answer)
+said : (n : ℕ) (before : List Call) (text answer : String) (c : Call) (a : Answer)
     → line_of (bytes text) ≡ Line.Call c → length (run fresh_tables before).frames ≡ 1024
     → (carried (run fresh_tables before) (plan_of base (run fresh_tables before) c)).answer ≡ a → answer_line n a ≡ bytes answer
     → Says n before (spoken text (Line.Call c) answer)
-unfolding said desk_after ask_in ask_from ask_of given rule_of settled heard run
-calls n before text answer c a r l e w = record {
+unfolding answered on_line rule_of settled heard run
+said n before text answer c a r l e w = record {
   read = r;
-  writes = λ g x y. rw (r, past_13 (run fresh_tables before) g c l (run_ok fresh_tables start before) x y, e, w);
-  leaves = λ g x y. rw (r, past_13 (run fresh_tables before) g c l (run_ok fresh_tables start before) x y, run_append fresh_tables before (c ∷ []));
+  writes = λ g x y p. rw (r, past_13 (run fresh_tables before) g c l (run_ok fresh_tables start before) x y, e, w);
+  leaves = λ g x y p. rw (r, past_13 (run fresh_tables before) g c l (run_ok fresh_tables start before) x y, run_append fresh_tables before (c ∷ []));
 }
 
-unread : (n : ℕ) (before : List Call) (text answer : String) → line_of (bytes text) ≡ Line.Unreadable → too_many n ≡ bytes answer
+unread : (n : ℕ) (before : List Call) (text answer : String) → line_of (bytes text) ≡ Line.Unreadable → unreadable_line n ≡ bytes answer
     → Says n before (spoken text Line.Unreadable answer)
-unfolding said desk_after ask_in ask_from ask_of given heard run
-unread n before text answer r w = record { read = r; writes = λ g x y. rw (r, w); leaves = λ g x y. rw (r, run_append fresh_tables before []) }
+unfolding answered on_line heard run
+unread n before text answer r w = record { read = r; writes = λ g x y p. rw (r, w); leaves = λ g x y p. rw (r, run_append fresh_tables before []) }
 
 -- what line 8 reads out, digit by digit
 digit : (n : ℕ) → ltb n 10 ≡ false → decimal n ≡ decimal (n / 10) ++ ((nought + n % 10) ∷ [])
@@ -58,12 +56,12 @@ also a b = (a, b)
 pub whole_run_fact : AllSay 1 [] whole_run
 unfolding AllSay whole_run heard run call_open line_open
 whole_run_fact =
-    also (calls 1 _ _ _ _ Done refl refl refl refl) (
-    also (calls 2 _ _ _ _ (No 10 1) refl refl refl refl) (
-    also (calls 3 _ _ _ _ (No 2 0) refl refl refl refl) (
-    also (calls 4 _ _ _ _ (No 1 0) refl refl refl refl) (
+    also (said 1 _ _ _ _ Done refl refl refl refl) (
+    also (said 2 _ _ _ _ (No 10 1) refl refl refl refl) (
+    also (said 3 _ _ _ _ (No 2 0) refl refl refl refl) (
+    also (said 4 _ _ _ _ (No 1 0) refl refl refl refl) (
     also (unread 5 _ _ _ refl refl) (
-    also (calls 6 _ _ _ _ Done refl refl refl refl) (
-    also (calls 7 _ _ _ _ Done refl refl refl refl) (
-    also (calls 8 _ _ _ _ (Page 2 (record { 0 = 1073741824 })) refl refl refl written_8) (
-    also (calls 9 _ _ _ _ (No 4 0) refl refl refl refl) tt))))))))
+    also (said 6 _ _ _ _ Done refl refl refl refl) (
+    also (said 7 _ _ _ _ Done refl refl refl refl) (
+    also (said 8 _ _ _ _ (Page 2 (record { 0 = 1073741824 })) refl refl refl written_8) (
+    also (said 9 _ _ _ _ (No 4 0) refl refl refl refl) tt))))))))

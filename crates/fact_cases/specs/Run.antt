@@ -5,8 +5,9 @@ use Prim.Native.String.{String}
 use Rattle.book_gauge.specs.{Fill.ratio, declared.Gauge.Gauge}
 use Rattle.base_calls.specs.declared.Call.{Call}
 use Rattle.door_script.specs.{Text.bytes, Lines.line_of, declared.line.Line.Line}
-use Rattle.door_replay.specs.Run.{desk, said, desk_after}
-use Rattle.fact_cases.specs.Cases.{hpa, fresh_tables, run}
+use Rattle.door_answers.specs.Answers.{Pen, wrote}
+use Rattle.door_session.specs.Session.{answered}
+use Rattle.fact_cases.specs.Cases.{hpa, base, fresh_tables, run}
 
 pub record Spoken : Type 0 where
   pub text : String
@@ -21,14 +22,14 @@ unfoldable pub heard : Line → List Call
 heard (Line.Unreadable) = []
 heard (Line.Call c) = c ∷ []
 
--- Line n after the calls `before`: how it is read, the bytes that it answers, and the tables that it leaves to the next line; with the program's
--- marks, whatever the fill and the lamp.
+-- Line n after the calls `before`: how it is read, what it writes behind the output so far, and the tables that it leaves to the next line; with the
+-- program's marks, whatever the fill and the lamp.
 pub record Says (n : ℕ) (before : List Call) (s : Spoken) : Type 0 where
   pub read : line_of (bytes s.text) ≡ s.is
-  pub writes : (g : Gauge) → g.raise ≡ ratio 768 1024 → g.clear ≡ ratio 512 1024
-      → said (desk (run fresh_tables before) g) n (bytes s.text) ≡ bytes s.answer
-  pub leaves : (g : Gauge) → g.raise ≡ ratio 768 1024 → g.clear ≡ ratio 512 1024
-      → (desk_after (desk (run fresh_tables before) g) (bytes s.text)).tables ≡ run fresh_tables (before ++ heard s.is)
+  pub writes : (g : Gauge) → g.raise ≡ ratio 768 1024 → g.clear ≡ ratio 512 1024 → (p : Pen)
+      → (answered base (run fresh_tables before) g (bytes s.text) n p).out ≡ wrote (bytes s.answer) p
+  pub leaves : (g : Gauge) → g.raise ≡ ratio 768 1024 → g.clear ≡ ratio 512 1024 → (p : Pen)
+      → (answered base (run fresh_tables before) g (bytes s.text) n p).tables ≡ run fresh_tables (before ++ heard s.is)
 
 unfoldable pub AllSay : ℕ → List Call → List Spoken → Type 0
 AllSay n before [] = Unit

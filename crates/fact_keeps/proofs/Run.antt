@@ -1,20 +1,13 @@
--- A run with one check at its start is the asks one after the other: every answer with what is read out, the tables and the gauge.
-use Rattle.base_rules.specs.Basics.{◌≡◌, Bool, true, false, List, [], ◌∷◌, ℕ, zero, suc, ◌+◌, length, choose, given, sum_from}
-use Rattle.base_rules.proofs.Facts.{refl, ap, ◌∙◌, inl, inr, choose_both, length-replicate, both_left, both_right}
-use lib.Ieee.{Float}
+-- A run with one check at its start is the calls one after the other: every answer with what is read out, the tables and the gauge.
+use Rattle.base_rules.specs.Basics.{◌≡◌, Bool, true, false, List, [], ◌∷◌, ◌⊎◌, length, choose, given}
+use Rattle.base_rules.proofs.Facts.{refl, sym, ap, ◌∙◌, inl, inr, choose_both}
 use Rattle.base_units.specs.declared.address.Hpa.{Hpa}
-use Rattle.book_gauge.specs.{Marks.marks_ok, Update.fresh_gauge, Update.with_marks, declared.Gauge.Gauge}
-use Rattle.book_gauge.proofs.Laws.{fresh_ok}
-use Rattle.book_ledger.specs.{Count.one_used, Count.used_frames, Sizes.sizes_of, Sizes.sizes_ok, Tables.Tables}
+use Rattle.book_gauge.specs.{Marks.marks_ok, declared.Gauge.Gauge}
+use Rattle.book_ledger.specs.{Count.used_frames, Tables.Tables}
 use Rattle.book_range.specs.Range.{lent_ok}
-use Rattle.base_calls.specs.{Answers.values_of, declared.Answer.TheVariants.No, declared.Ask.Ask, declared.Call.Call}
-use Rattle.call_host.specs.Calls.{Outcome, outcome, gauge_after, settled, rule_of, call_of, reset_of, marks_of}
-use Rattle.call_run.specs.declared.Run.{Run}
-use Rattle.call_run.specs.Runs.{knows, begun_of, next, known_reset, marks_with, host_with, next_of}
-use Rattle.door_asks.specs.Asks.{ask_of}
-use Rattle.fact_keeps.specs.Runs.{ran, and_then, fold_of, run_from, once_of, Fails, hosts, all_refused}
-use Rattle.base_units.specs.Limits.{frames_ok}
-use Rattle.fact_keeps.proofs.{Ranged.SizesOk, Ranged.of_lent, Fresh.zeroes, Fresh.zeros, Fresh.zero_frame, Fresh.zeros_lent}
+use Rattle.base_calls.specs.declared.{Answer.TheVariants.No, Call.Call}
+use Rattle.call_host.specs.Calls.{Outcome, outcome, gauge_after, settled, rule_of, call_of}
+use Rattle.fact_keeps.specs.Runs.{Ran, ran, and_then, fold_of, run_from, all_refused, run_of}
 use Rattle.fact_keeps.proofs.Keeps.{rule_keeps, rule_length, rule_with_fact}
 
 abbrev marks_in : Tables → Gauge → Bool
@@ -22,126 +15,45 @@ marks_in t g = marks_ok g.raise g.clear (length t.frames)
 
 -- ---- no call changes a mark
 
-pub marks_stay : (base : Hpa) (t : Tables) (g : Gauge) (c : Call) → lent_ok base t ≡ true
-    → marks_in (rule_of base t g c).tables (rule_of base t g c).gauge ≡ marks_in t g
-unfolding rule_of settled gauge_after given
-marks_stay base t g c ok =
-    let l = rule_length base t ok g c in
-    choose_both (λ (h : Gauge). marks_in (rule_of base t g c).tables h ≡ marks_in t g) _ _ _ (λ _. rw l refl) (λ _. rw l refl)
-
--- ---- what a run knows at its start
-
 module _ (base : Hpa) (t : Tables) (g : Gauge) where
-  begun_in : lent_ok base t ≡ true → begun_of base t g ≡ record { gauge = g; used = used_frames t.frames; lent = true; marked = marks_in t g }
-  unfolding begun_of given choose
-  begun_in ok = rw ok refl
+  pub marks_stay : (c : Call) → lent_ok base t ≡ true → marks_in (rule_of base t g c).tables (rule_of base t g c).gauge ≡ marks_in t g
+  unfolding rule_of settled gauge_after given
+  marks_stay c ok =
+      let l = rule_length base t ok g c in
+      choose_both (λ (h : Gauge). marks_in (rule_of base t g c).tables h ≡ marks_in t g) _ _ _ (λ _. rw l refl) (λ _. rw l refl)
 
-  begun_out : lent_ok base t ≡ false → begun_of base t g ≡ record { gauge = g; used = 0; lent = false; marked = false }
-  unfolding begun_of choose
-  begun_out e = rw e refl
+  -- ---- what a call is where the check doesn't pass
 
--- ---- an ask of a run that knows its tables and gauge is a single ask, and the run knows those that it leaves
-
-abbrev Single : Hpa → Tables → Gauge → Ask → Type 0
-Single base t g a =
-    next_of base t (begun_of base t g) a
-    ≡ next (ask_of base t g a).answer (ask_of base t g a).tables (begun_of base (ask_of base t g a).tables (ask_of base t g a).gauge)
-
-module _ (base : Hpa) (t : Tables) (g : Gauge) where
-  a_call : (c : Call) → Single base t g (Ask.Host c)
-  unfolding next_of ask_of host_with call_of choose
-  a_call c =
-      elim (lent_ok base t) as (λ b. lent_ok base t ≡ b → Single base t g (Ask.Host c)) [
-        | true ↦ λ ok. elim (marks_in t g) as (λ b. marks_in t g ≡ b → Single base t g (Ask.Host c)) [
-          | true ↦ λ m. rw (
-            begun_in base t g ok,
-            ok,
-            m,
-            rule_with_fact base t g c ok,
-            begun_in base (rule_of base t g c).tables (rule_of base t g c).gauge (rule_keeps base t ok g c),
-            marks_stay base t g c ok,
-            m,
-          ) refl
-          | false ↦ λ m. rw (ok, m, begun_in base t g ok, m) refl
-        ] refl
-        | false ↦ λ e. rw (e, begun_out base t g e) refl
-      ] refl
-
-  marks_set : (raise clear : Float) → Single base t g (Ask.Marks raise clear)
-  unfolding next_of ask_of marks_with marks_of choose given
-  marks_set raise clear =
-      elim (lent_ok base t) as (λ b. lent_ok base t ≡ b → Single base t g (Ask.Marks raise clear)) [
-        | true ↦ λ ok. elim (marks_ok raise clear (length t.frames)) as (λ b. marks_ok raise clear (length t.frames) ≡ b → Single base t g (Ask.Marks raise clear)) [
-          | true ↦ λ m. rw (begun_in base t g ok, ok, m, begun_in base t (with_marks raise clear (used_frames t.frames) (length t.frames)) ok, m) refl
-          | false ↦ λ m. rw (ok, m, begun_in base t g ok) refl
-        ] refl
-        | false ↦ λ e. rw (e, begun_out base t g e) refl
-      ] refl
-
-  -- a reset knows what it leaves: nothing is used, and all of it is in range
-  none_used : (n i k : ℕ) → sum_from (one_used (zeroes n)) i k ≡ 0
-  unfolding sum_from one_used choose
-  none_used n i zero = refl
-  none_used n i (suc k) = rw (zero_frame n i, none_used n (i + 1) k) refl
-
-  fresh_known : SizesOk base t → begun_of base (zeros t) fresh_gauge ≡ knows fresh_gauge 0
-  unfolding used_frames sizes_ok sizes_of given
-  fresh_known e =
-      let f : frames_ok (length t.frames) ≡ true = both_left _ _ (both_right _ _ e) in
-      rw (
-        begun_in base (zeros t) fresh_gauge (of_lent base (zeros t) (zeros_lent base t e)),
-        length-replicate {A = ℕ} (length t.frames) 0,
-        none_used (length t.frames) 0 (length t.frames),
-        fresh_ok (length t.frames) f,
-      ) refl
-
-  was_reset : Single base t g Ask.Reset
-  unfolding next_of ask_of reset_of known_reset values_of choose given
-  was_reset =
-      let ok = sizes_ok base (length t.frames) (length t.domains) (length t.stock) (length t.entries) in
-      elim ok as (λ b. ok ≡ b → Single base t g Ask.Reset) [
-        | true ↦ λ e. rw (e, fresh_known e) refl
-        | false ↦ λ e. rw e refl
-      ] refl
-
-pub next_is : (base : Hpa) (t : Tables) (g : Gauge) (a : Ask) → Single base t g a
-unfolding next_of ask_of
-next_is base t g (Ask.Host c) = a_call base t g c
-next_is base t g (Ask.Marks raise clear) = marks_set base t g raise clear
-next_is base t g Ask.Reset = was_reset base t g
-next_is base t g Ask.Unreadable = refl
-
--- ---- the run
-
-pub begun_gauge : (base : Hpa) (t : Tables) (g : Gauge) → (begun_of base t g).gauge ≡ g
-unfolding begun_of given
-begun_gauge base t g = choose_both (λ (r : Run). r.gauge ≡ g) (lent_ok base t) _ _ (λ _. refl) (λ _. refl)
-
-run_from_fact : (base : Hpa) (t : Tables) (g : Gauge) (l : List Ask) → run_from base t (begun_of base t g) l ≡ fold_of base t g l
-unfolding run_from fold_of given
-run_from_fact base t g [] = rw (begun_gauge base t g) refl
-run_from_fact base t g (a ∷ l) =
-    let o = ask_of base t g a in
-    rw (next_is base t g a) (ap (and_then o.answer) (run_from_fact base o.tables o.gauge l))
-
--- the run with one check is the fold of `ask_of`, refused asks, marks and resets included, on any lent tables
-pub run : (base : Hpa) (t : Tables) (g : Gauge) (l : List Ask) → once_of base t g l ≡ fold_of base t g l
-unfolding once_of given
-run base t g l = run_from_fact base t g l
-
--- ---- where the check fails
-
-module _ (base : Hpa) (t : Tables) (g : Gauge) where
-  call_refused : (c : Call) → Fails base t g → call_of base t g c ≡ outcome (No 13 0) t g
+  call_refused : (c : Call) → (lent_ok base t ≡ false) ⊎ (marks_in t g ≡ false) → call_of base t g c ≡ outcome (No 13 0) t g
   unfolding call_of choose
   call_refused c (inl e) = rw e refl
   call_refused c (inr e) = choose_both (λ (o : Outcome). o ≡ outcome (No 13 0) t g) (lent_ok base t) _ _ (λ _. rw e refl) (λ _. refl)
 
-  all_refused_fact : (cs : List Call) → Fails base t g → fold_of base t g (hosts cs) ≡ ran (all_refused cs) t g
-  unfolding fold_of hosts all_refused given ask_of
+  pub all_refused_fact : (cs : List Call) → (lent_ok base t ≡ false) ⊎ (marks_in t g ≡ false) → fold_of base t g cs ≡ ran (all_refused cs) t g
+  unfolding fold_of all_refused given
   all_refused_fact [] e = refl
   all_refused_fact (c ∷ cs) e = rw (call_refused c e) (ap (and_then (No 13 0)) (all_refused_fact cs e))
 
-  -- each answer is 13 and nothing changes
-  pub run_refused : (cs : List Call) → Fails base t g → once_of base t g (hosts cs) ≡ ran (all_refused cs) t g
-  run_refused cs e = run base t g (hosts cs) ∙ all_refused_fact cs e
+-- ---- the run
+
+run_from_fact : (base : Hpa) (t : Tables) (g : Gauge) (cs : List Call) → lent_ok base t ≡ true → marks_in t g ≡ true
+    → run_from base t g (used_frames t.frames) cs ≡ fold_of base t g cs
+unfolding run_from fold_of given call_of choose
+run_from_fact base t g [] ok m = refl
+run_from_fact base t g (c ∷ cs) ok m =
+    let o = rule_of base t g c in
+    rw (rule_with_fact base t g c ok, ok, m)
+    (ap (and_then o.answer) (run_from_fact base o.tables o.gauge cs (rule_keeps base t ok g c) (marks_stay base t g c ok ∙ m)))
+
+-- (3) the run with one check is the fold of `call_of`
+pub run : (base : Hpa) (t : Tables) (g : Gauge) (cs : List Call) → run_of base t g cs ≡ fold_of base t g cs
+unfolding run_of given
+run base t g cs =
+    let P : Ran → Type 0 = λ r. r ≡ fold_of base t g cs in
+    choose_both P _ _ _ (λ ok. choose_both P _ _ _ (run_from_fact base t g cs ok) (λ e. sym (all_refused_fact base t g cs (inr e))))
+    (λ e. sym (all_refused_fact base t g cs (inl e)))
+
+-- where the first check fails, each answer is 13 and nothing changes
+pub run_refused : (base : Hpa) (t : Tables) (g : Gauge) (cs : List Call) → (lent_ok base t ≡ false) ⊎ (marks_in t g ≡ false)
+    → run_of base t g cs ≡ ran (all_refused cs) t g
+run_refused base t g cs e = run base t g cs ∙ all_refused_fact base t g cs e

@@ -1,16 +1,49 @@
--- Request 11: "A run of calls on tables that nobody else touches in between may check once at its start, provided that every answer is the one
--- single calls give." The asks of a run one after the other, each with its own answer 13, and the same asks with one check at the start.
-use Rattle.base_rules.specs.Basics.{◌≡◌, false, ◌⊎◌, List, [], ◌∷◌, length, given}
+-- A run of calls that checks its tables and marks once, and carries the count of used frames along by value.
+use Rattle.base_rules.specs.Basics.{ℕ, ◌+◌, ◌-◌, List, [], ◌∷◌, length, eqb, choose, need, given}
 use Rattle.base_units.specs.declared.address.Hpa.{Hpa}
-use Rattle.book_gauge.specs.{Marks.marks_ok, declared.Gauge.Gauge}
-use Rattle.book_ledger.specs.Tables.{Tables}
+use Rattle.book_gauge.specs.{Marks.marks_ok, Update.after, declared.Gauge.Gauge}
+use Rattle.book_ledger.specs.{Codes.NDA, Count.one_used, Count.used_frames, Tables.Tables, declared.words.Frame.Frame}
 use Rattle.book_range.specs.Range.{lent_ok}
-use Rattle.base_calls.specs.declared.{Answer.Answer, Answer.TheVariants.No, Ask.Ask, Ask.TheVariants.Host, Call.Call}
-use Rattle.base_calls.specs.Operands.{NONE}
-use Rattle.call_run.specs.{Runs.begun_of, Runs.next_of, declared.Run.Run}
-use Rattle.door_asks.specs.Asks.{ask_of}
+use Rattle.base_calls.specs.{Answers.values_of, declared.Answer.Answer, declared.Answer.TheVariants.No, declared.Call.Call, Operands.NONE}
+use Rattle.call_plan.specs.declared.edit.{FrameEdit.FrameEdit, Plan.Plan, Plan.TheVariants.Say, Plan.TheVariants.Do, Plan.TheVariants.Each}
+use Rattle.call_carry.specs.Carry.{carried}
+use Rattle.call_host.specs.Calls.{Outcome, outcome, plan_of, call_of}
 
--- every answer with what is read out, in order, and the tables and the gauge at the end
+-- ---- the count, carried by value: less one if the frame was used, one more if it is now
+
+unfoldable pub is_used : Frame → ℕ
+is_used f = choose (eqb f.kind NDA) 0 1
+
+unfoldable pub used_after : FrameEdit → List ℕ → ℕ → ℕ
+used_after (FrameEdit.Keep) fs used = used
+used_after (FrameEdit.Set n f) fs used = used - one_used fs n.0 + is_used f
+
+unfoldable pub used_by : Plan → Tables → ℕ → ℕ
+used_by (Say a) t used = used
+used_by (Do e) t used = used_after e.frame t.frames used
+used_by (Each w) t used = used
+
+-- ---- a call's own rule with the count carried: `rule_of`, and the count for the next call
+
+pub record Step : Type 0 where
+  pub outcome : Outcome
+  pub used : ℕ
+
+-- `gauge_after`, with the count by value
+unfoldable pub gauge_with : Gauge → Answer → ℕ → ℕ → Gauge
+gauge_with g a used frames =
+    given (values_of a) λ v.
+    choose (eqb v.number 0) (after g used frames) g
+
+unfoldable pub rule_with : Hpa → Tables → Gauge → ℕ → Call → Step
+rule_with base t g used c =
+    given (plan_of base t c) λ p.
+    given (used_by p t used) λ now.
+    given (carried t p) λ k.
+    record { outcome = outcome k.answer k.tables (gauge_with g k.answer now (length t.frames)); used = now }
+
+-- ---- a run: every answer with what is read out, in order, and the tables and the gauge at its end
+
 pub record Ran : Type 0 where
   pub answers : List Answer
   pub tables : Tables
@@ -22,28 +55,27 @@ ran l t g = record { answers = l; tables = t; gauge = g }
 abbrev pub and_then : Answer → Ran → Ran
 and_then a r = ran (a ∷ r.answers) r.tables r.gauge
 
--- single asks
-unfoldable pub fold_of : Hpa → Tables → Gauge → List Ask → Ran
+-- one call after the other, each with its own answer 13
+unfoldable pub fold_of : Hpa → Tables → Gauge → List Call → Ran
 fold_of base t g [] = ran [] t g
-fold_of base t g (a ∷ l) = given (ask_of base t g a) λ o. and_then o.answer (fold_of base o.tables o.gauge l)
+fold_of base t g (c ∷ cs) = given (call_of base t g c) λ o. and_then o.answer (fold_of base o.tables o.gauge cs)
 
--- the asks of a run that knows r
-unfoldable pub run_from : Hpa → Tables → Run → List Ask → Ran
-run_from base t r [] = ran [] t r.gauge
-run_from base t r (a ∷ l) = given (next_of base t r a) λ n. and_then n.answer (run_from base n.tables n.run l)
+-- one rule after the other, with no answer 13
+unfoldable pub run_from : Hpa → Tables → Gauge → ℕ → List Call → Ran
+run_from base t g used [] = ran [] t g
+run_from base t g used (c ∷ cs) =
+    given (rule_with base t g used c) λ s.
+    and_then s.outcome.answer (run_from base s.outcome.tables s.outcome.gauge s.used cs)
 
--- one check of the tables and of the gauge's marks, then the asks
-unfoldable pub once_of : Hpa → Tables → Gauge → List Ask → Ran
-once_of base t g l = given (begun_of base t g) λ r. run_from base t r l
-
--- where the check fails: each call answers 13
-abbrev pub Fails : Hpa → Tables → Gauge → Type 0
-Fails base t g = (lent_ok base t ≡ false) ⊎ (marks_ok g.raise g.clear (length t.frames) ≡ false)
-
-unfoldable pub hosts : List Call → List Ask
-hosts [] = []
-hosts (c ∷ cs) = Host c ∷ hosts cs
-
+-- each call answered 13
 unfoldable pub all_refused : List Call → List Answer
 all_refused [] = []
 all_refused (c ∷ cs) = No 13 NONE ∷ all_refused cs
+
+-- the lent tables and the lent gauge's marks once, then every call's own rule
+unfoldable pub run_of : Hpa → Tables → Gauge → List Call → Ran
+run_of base t g cs =
+    need (lent_ok base t) (ran (all_refused cs) t g) (
+    need (marks_ok g.raise g.clear (length t.frames)) (ran (all_refused cs) t g) (
+    given (used_frames t.frames) λ used.
+    run_from base t g used cs))

@@ -1,17 +1,15 @@
 -- What holds of every call holds of every ask with the gauge lent, and of every request from C and Rust.
-use Rattle.base_rules.specs.Basics.{◌≡◌, Bool, true, false, List, [], ◌∷◌, ℕ, ◌<◌, ◌≤◌, length, choose, given, all_from}
+use Rattle.base_rules.specs.Basics.{◌≡◌, Bool, true, false, List, [], ◌∷◌, ℕ, ◌<◌, ◌≤◌, length, choose, all_from}
 use Rattle.base_rules.proofs.Facts.{refl, sym, ap, ◌∙◌, true≢false, ⊎_elim, arith, List·getD-eq-default, leb-true, choose_both, both_left, both_right, all_at}
 use Rattle.base_units.specs.declared.address.Hpa.{Hpa}
 use Rattle.book_gauge.specs.declared.Gauge.{Gauge}
 use Rattle.book_ledger.specs.Tables.{Tables}
-use Rattle.base_calls.specs.{Answers.number_of, Answers.values_of, declared.Ask.TheVariants.Unreadable}
+use Rattle.base_calls.specs.{Answers.number_of, declared.Ask.TheVariants.Unreadable}
 use Rattle.base_calls.specs.declared.{Values.Values, Ask.Ask, Ask.TheVariants.Host, Ask.TheVariants.Marks, Ask.TheVariants.Reset}
 use Rattle.call_host.specs.Calls.{reset_of}
 use Rattle.door_asks.specs.Asks.{ask_of}
 use Rattle.door_requests.specs.{Requests.asks, Requests.ask_at, Requests.ask_for, declared.Request.Request}
-use Rattle.call_run.specs.Runs.{begun_of, Next}
-use Rattle.reefnettle.specs.Door.{ReadOut, handed_out, door_of, told, next_door}
-use Rattle.fact_keeps.proofs.Run.{next_is}
+use Rattle.reefnettle.specs.Door.{ReadOut, handed_out, door_of}
 use Rattle.fact_ownership.specs.Reached.{Lists, Reached, Demand3, fresh, called, marked}
 use Rattle.fact_ownership.proofs.Demand.{demand3}
 use Rattle.fact_theorems.specs.Order.{number, place, tables, in_order, Check, first_no, Fails}
@@ -35,13 +33,6 @@ pub door_once : (base : Hpa) (t : Tables) (g : Gauge) (r : Request) (v w : Value
     → handed_out v t₁ g₁ ≡ door_of base t g r → handed_out w t₂ g₂ ≡ door_of base t g r → (v ≡ w) × (t₁ ≡ t₂) × (g₁ ≡ g₂)
 door_once base t g r v w t₁ t₂ g₁ g₂ p q =
     let e = p ∙ sym q in (ap (λ (o : ReadOut). o.values) e, ap (λ (o : ReadOut). o.tables) e, ap (λ (o : ReadOut). o.gauge) e)
-
--- ---- a request of a run that knows its tables and gauge is a single request, and the run knows those that it leaves
-
-pub door_run : (base : Hpa) (t : Tables) (g : Gauge) (r : Request) → next_door base t (begun_of base t g) r
-    ≡ told (door_of base t g r).values (door_of base t g r).tables (begun_of base (door_of base t g r).tables (door_of base t g r).gauge)
-unfolding next_door door_of given
-door_run base t g r = ap (λ (n : Next). told (values_of n.answer) n.tables n.run) (next_is base t g (ask_for r))
 
 -- ---- each number is that of the first check that fails
 

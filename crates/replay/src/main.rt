@@ -1,14 +1,10 @@
-// Replays a script: calls on standard input, a line each; their answers on standard output. It reads, hands on and writes, and decides nothing: what
-// a part of the input does, the beginning and the end are proved in the crate door_replay to give the bytes of one whole run.
-ghost use Rattle.std.specs.Prelude.{◌≡◌, true, List, ◌++◌, ℕ, ◌-◌, ◌<◌, ◌≤◌, length, take};
-ghost use Rattle.book_ledger.specs.Tables.{lent};
-ghost use Rattle.door_replay.specs.Run.{run_of};
-ghost use Rattle.door_replay.specs.Bytes.{held_most};
-ghost use Rattle.door_replay.specs.Stands.{Ready, Handed, Sized, flushed};
-ghost use Rattle.replay.specs.Reading.{left_of, Ends, AllRead};
-ghost use Rattle.door_replay.specs.declared.Stand.{Stand as Stands};
-
-use door_replay::Stand;
+// Replays a script: calls on standard input, a line each; their answers on standard output. Only reading, writing and the loops over them
+// stand here: what a byte does and what a line answers is proved in the crates feed and session.
+use base_calls::Ask;
+use base_units::address::Hpa;
+use book_gauge::Gauge;
+use book_ledger::count;
+use door_feed::{Feed, Turn};
 
 const STDIN: i32 = 0;
 
@@ -16,28 +12,22 @@ const STDOUT: i32 = 1;
 
 const STDERR: i32 = 2;
 
-// Where the run stands when its pending answers are written, and whether they could be.
-#[derive(Drop)]
-pub struct Flushed {
-    pub stand: Stand,
-    pub written: bool,
-}
+const BASE_BYTES: u64 = 1073741824;
 
-// How the reading goes: it goes on after so many parts; it ended at line 10001; where a read gave so many bytes, and whether it failed; where the
-// answers can't be written.
-#[derive(Drop)]
-pub enum End {
-    More(u64),
-    Over,
-    Read(usize, bool),
-    Unwritten,
-}
+const FRAMES: u64 = 1024;
 
-// Where the run stands, and how the reading goes.
+// Room for an answer: its line takes at most bytes 118, the line's number having 5 digits at most and any other 20.
+const ANSWER_BYTES: usize = 128;
+
+// Where the replay stands: the gauge, the script so far, the bytes of output not yet written, whether the reading is over (at the
+// input's end, at line 10001, or given up), and whether it was given up: then no line more is run and nothing more is written.
 #[derive(Drop)]
-pub struct Reading {
-    pub stand: Stand,
-    pub end: End,
+pub struct State {
+    pub gauge: Gauge,
+    pub feed: Feed,
+    pub pending: usize,
+    pub stopped: bool,
+    pub given_up: bool,
 }
 
 fn main() {
@@ -45,9 +35,9 @@ fn main() {
     let mut domains = [0u64; 20];
     let mut stock = [0u64; 1];
     let mut entries = [0u32; 8192];
-    let mut input = [0u8; 8192];
+    let mut input = [0u8; 4096];
     let mut line = [0u8; 121];
-    let mut out = [0u8; 8192];
+    let mut out = [0u8; 4096];
     replay(
         &mut frames,
         &mut domains,
@@ -59,7 +49,7 @@ fn main() {
     );
 }
 
-// The first line, the script, the last line. A run that couldn't be read or written to its end has no last line.
+// A fresh start with the program's marks, the first line, the script, the last line.
 fn replay(
     frames: &mut [u64],
     domains: &mut [u64],
@@ -68,28 +58,22 @@ fn replay(
     input: &mut [u8],
     line: &mut [u8],
     out: &mut [u8],
-)
-    requires sizes { Sized frames.old domains.old stock.old entries.old }
-    requires line { length line.old ≡ held_most }
-    requires room { 256 ≤ length out.old }
-{
-    let begun = door_replay::begin(frames, domains, stock, entries, out);
-    let first = flush(out, begun);
-    if first.written {
-        run_script(
-            frames,
-            domains,
-            stock,
-            entries,
-            input,
-            line,
-            out,
-            first.stand,
-        );
-    }
+) {
+    let gauge = start(frames, domains, stock, entries);
+    let begun = begin(out, gauge);
+    let ended = run_script(frames, domains, stock, entries, input, line, out, begun);
+    finish(frames, out, ended);
 }
 
-// The script, and if it was read and answered to its end, the last line.
+fn start(frames: &mut [u64], domains: &mut [u64], stock: &mut [u64], entries: &mut [u32]) -> Gauge {
+    let base = Hpa(BASE_BYTES);
+    let g = book_gauge::fresh_gauge();
+    let fresh = door_asks::answer_ask(base, frames, domains, stock, entries, g, Ask::Reset);
+    let marks = Ask::Marks(0.75, 0.5);
+    let set = door_asks::answer_ask(base, frames, domains, stock, entries, fresh.gauge, marks);
+    set.gauge
+}
+
 fn run_script(
     frames: &mut [u64],
     domains: &mut [u64],
@@ -98,79 +82,155 @@ fn run_script(
     input: &mut [u8],
     line: &mut [u8],
     out: &mut [u8],
-    begun: Stand,
-)
-    requires { Ready (lent frames.old domains.old stock.old entries.old) line.old out.old begun }
-{
+    begun: State,
+) -> State {
     let read = read_all(frames, domains, stock, entries, input, line, out, begun);
-    let end = read.end;
-    if went_well(end) {
-        close(frames, domains, stock, entries, line, out, read.stand);
+    end_line(frames, domains, stock, entries, line, out, read)
+}
+
+fn begin(out: &mut [u8], gauge: Gauge) -> State {
+    let n = door_answers::write_first(out, FRAMES);
+    State {
+        gauge,
+        feed: Feed { lines: 0, held: 0 },
+        pending: door_feed::within(n, out),
+        stopped: false,
+        given_up: false,
     }
 }
 
-// The line that has begun, if one has, and the last line: with its bytes all that was written is what the whole run says.
-fn close(
+// The last line says that the whole script was read and answered. A run that was given up has none.
+fn finish(frames: &[u64], out: &mut [u8], s: State) {
+    let done = flush(out, s);
+    if done.given_up {
+        return;
+    }
+    let g = done.gauge;
+    let last = door_answers::write_last(out, count::used_frames(frames), g.lamp);
+    let n = door_feed::within(last, out);
+    let closed = with_pending(done, n);
+    flush(out, closed);
+}
+
+// The pending output is written, or the run is given up.
+fn flush(out: &[u8], s: State) -> State {
+    if s.given_up {
+        return s;
+    }
+    let n = door_feed::within(s.pending, out);
+    if io::write_all(STDOUT, &out[..n]) {
+        return with_pending(s, 0);
+    }
+    io::write_all(STDERR, b"replay: the answers can't be written\n");
+    give_up(s)
+}
+
+fn with_pending(old: State, pending: usize) -> State {
+    let mut s = old;
+    s.pending = pending;
+    s
+}
+
+fn stop(old: State) -> State {
+    let mut s = old;
+    s.stopped = true;
+    s
+}
+
+fn give_up(old: State) -> State {
+    let mut s = stop(old);
+    s.given_up = true;
+    s
+}
+
+// Room for one answer more.
+fn with_room(out: &[u8], s: State) -> State {
+    let n = door_feed::within(s.pending, out);
+    if out.len() - n < ANSWER_BYTES {
+        return flush(out, s);
+    }
+    s
+}
+
+// The line held, run as line `number`.
+fn run_line(
+    frames: &mut [u64],
+    domains: &mut [u64],
+    stock: &mut [u64],
+    entries: &mut [u32],
+    line: &[u8],
+    out: &mut [u8],
+    number: u64,
+    old: State,
+) -> State {
+    let s = with_room(out, old);
+    let gauge = s.gauge;
+    let feed = s.feed;
+    let held = door_feed::within(feed.held, line);
+    let at = door_feed::within(s.pending, out);
+    let most = out.len();
+    let r = door_session::reply(
+        Hpa(BASE_BYTES),
+        frames,
+        domains,
+        stock,
+        entries,
+        gauge,
+        &line[..held],
+        number,
+        &mut out[at..],
+    );
+    let now = r.gauge;
+    State {
+        gauge: now,
+        feed,
+        pending: door_feed::advanced(at, r.wrote, most),
+        stopped: s.stopped,
+        given_up: s.given_up,
+    }
+}
+
+// Line 10001 answers 15 and ends the reading.
+fn stop_at(out: &mut [u8], old: State) -> State {
+    let s = with_room(out, old);
+    let at = door_feed::within(s.pending, out);
+    let most = out.len();
+    let n = door_answers::write_unreadable(&mut out[at..], door_feed::LINES_MOST + 1);
+    let pending = door_feed::advanced(at, n, most);
+    stop(with_pending(s, pending))
+}
+
+fn with_feed(old: State, feed: Feed) -> State {
+    let mut s = old;
+    s.feed = feed;
+    s
+}
+
+fn take_byte(
     frames: &mut [u64],
     domains: &mut [u64],
     stock: &mut [u64],
     entries: &mut [u32],
     line: &mut [u8],
     out: &mut [u8],
-    stand: Stand,
-) -> usize
-    requires { Ready (lent frames.old domains.old stock.old entries.old) line.old out.old stand }
-    ensures { 0 < result → (script : List ℕ) → Handed script (lent frames.old domains.old stock.old entries.old) line.old out.old stand
-        → (sent : List ℕ) × (sent ++ take result out.new ≡ run_of script) }
-{
-    let ended = door_replay::end_line(frames, domains, stock, entries, line, out, stand);
-    let last = flush(out, ended);
-    if !last.written {
-        return 0;
-    }
-    let n = door_replay::finish(frames, out, last.stand);
-    write(&out[..n]);
-    n
-}
-
-// Whether the script was read and answered to its end; if it couldn't be read, standard error says so.
-fn went_well(end: End) -> bool {
-    match end {
-        End::More(_) => true,
-        End::Over => true,
-        End::Read(_, failed) => {
-            if failed {
-                io::write_all(STDERR, b"replay: standard input can't be read\n");
-            }
-            !failed
+    byte: u8,
+    s: State,
+) -> State {
+    let feed = s.feed;
+    match door_feed::turn_of(feed, byte) {
+        Turn::Hold(next) => {
+            door_feed::hold(line, feed.held, byte);
+            with_feed(s, next)
         }
-        End::Unwritten => false,
+        Turn::Ends(next) => {
+            let t = run_line(frames, domains, stock, entries, line, out, next.lines, s);
+            with_feed(t, next)
+        }
+        Turn::Stop => stop_at(out, s),
     }
 }
 
-// Answers to standard output; if they can't be written, standard error says so.
-fn write(answers: &[u8]) -> bool {
-    if io::write_all(STDOUT, answers) {
-        return true;
-    }
-    io::write_all(STDERR, b"replay: the answers can't be written\n");
-    false
-}
-
-// The pending answers are written.
-fn flush(out: &[u8], s: Stand) -> Flushed
-    requires { s.pending ≤ length out.now }
-    ensures { result.stand ≡ flushed s }
-{
-    let n = s.pending;
-    let written = write(&out[..n]);
-    let mut stand = s;
-    stand.pending = 0;
-    Flushed { stand, written }
-}
-
-// A whole part, and its answers written.
-fn take_all(
+fn take_part(
     frames: &mut [u64],
     domains: &mut [u64],
     stock: &mut [u64],
@@ -178,76 +238,21 @@ fn take_all(
     line: &mut [u8],
     out: &mut [u8],
     part: &[u8],
-    begun: Stand,
-) -> Flushed
-    requires { Ready (lent frames.old domains.old stock.old entries.old) line.old out.old begun }
-    ensures ready { Ready (lent frames.new domains.new stock.new entries.new)
-        line.new out.new result.stand }
-    ensures all { result.written ≡ true → (script : List ℕ)
-        → Handed script (lent frames.old domains.old stock.old entries.old) line.old
-        out.old begun
-        → Handed (script ++ part.now) (lent frames.new domains.new stock.new entries.new)
-        line.new out.new result.stand }
-{
+    begun: State,
+) -> State {
     let mut s = begun;
     let mut i = 0;
     while i < part.len() {
-        let t = door_replay::take_part(frames, domains, stock, entries, line, out, &part[i..], s);
-        let f = flush(out, t.stand);
-        if !f.written {
-            return f;
+        if s.stopped {
+            return s;
         }
-        s = f.stand;
-        i += t.bytes;
+        s = take_byte(frames, domains, stock, entries, line, out, part[i], s);
+        i += 1;
     }
-    Flushed {
-        stand: s,
-        written: true,
-    }
+    s
 }
 
-// How many parts may still be read, after `end`.
-fn left_of(end: End) -> u64
-    ensures { result ≡ left_of end }
-{
-    match end {
-        End::More(parts) => u64::MAX - parts,
-        End::Over => 0,
-        End::Read(_, _) => 0,
-        End::Unwritten => 0,
-    }
-}
-
-// One part less is left.
-fn more(left: u64) -> End
-    ensures ends { (s : Stands) → Ends s result }
-    ensures less { left_of result ≡ left - 1 }
-{
-    if left == 0 {
-        return End::More(u64::MAX);
-    }
-    End::More(u64::MAX - (left - 1))
-}
-
-fn after_part(f: Flushed, left: u64) -> Reading
-    ensures is { result.stand ≡ f.stand }
-    ensures ends { Ends result.stand result.end }
-    ensures less { left_of result.end ≤ left - 1 }
-{
-    let stand = f.stand;
-    if f.written {
-        return Reading {
-            stand,
-            end: more(left),
-        };
-    }
-    Reading {
-        stand,
-        end: End::Unwritten,
-    }
-}
-
-// One part of the input, while so many may still be read.
+// One part of the input, or its end. If it can't be read, what was answered is still written.
 fn read_part(
     frames: &mut [u64],
     domains: &mut [u64],
@@ -256,43 +261,22 @@ fn read_part(
     input: &mut [u8],
     line: &mut [u8],
     out: &mut [u8],
-    stand: Stand,
-    left: u64,
-) -> Reading
-    requires { Ready (lent frames.old domains.old stock.old entries.old) line.old out.old stand }
-    ensures ready { Ready (lent frames.new domains.new stock.new entries.new)
-        line.new out.new result.stand }
-    ensures ends { Ends result.stand result.end }
-    ensures less { left_of result.end ≤ left - 1 }
-{
-    if stand.over {
-        return Reading {
-            stand,
-            end: End::Over,
-        };
-    }
+    s: State,
+) -> State {
     let got = libc::read(STDIN, input);
-    let n = io::count(got, input);
-    if n == 0 {
-        return Reading {
-            stand,
-            end: End::Read(n, got < 0),
-        };
+    if got < 0 {
+        let told = flush(out, s);
+        io::write_all(STDERR, b"replay: standard input can't be read\n");
+        return give_up(told);
     }
-    let f = take_all(
-        frames,
-        domains,
-        stock,
-        entries,
-        line,
-        out,
-        &input[..n],
-        stand,
-    );
-    after_part(f, left)
+    if got == 0 {
+        return stop(s);
+    }
+    let n = io::count(got, input);
+    take_part(frames, domains, stock, entries, line, out, &input[..n], s)
 }
 
-// The whole input, a part at a time. No input has more parts than are counted.
+// The whole input, a part at a time. No input is longer than the turns counted.
 fn read_all(
     frames: &mut [u64],
     domains: &mut [u64],
@@ -301,25 +285,48 @@ fn read_all(
     input: &mut [u8],
     line: &mut [u8],
     out: &mut [u8],
-    begun: Stand,
-) -> Reading
-    requires { Ready (lent frames.old domains.old stock.old entries.old) line.old out.old begun }
-    ensures ready { Ready (lent frames.new domains.new stock.new entries.new)
-        line.new out.new result.stand }
-    ensures all { AllRead result }
-{
-    let mut r = Reading {
-        stand: begun,
-        end: End::More(0),
-    };
-    let mut left = u64::MAX;
-    while left > 0 {
-        let stand = r.stand;
-        r = read_part(
-            frames, domains, stock, entries, input, line, out, stand, left,
-        );
-        let end = r.end;
-        left = left_of(end);
+    begun: State,
+) -> State {
+    let mut s = begun;
+    let mut turns = u64::MAX;
+    while turns > 0 {
+        if s.stopped {
+            return s;
+        }
+        turns -= 1;
+        s = read_part(frames, domains, stock, entries, input, line, out, s);
     }
-    r
+    s
+}
+
+// A last line may lack its LF. Where the run was given up, nobody knows how the line goes on: it isn't run.
+fn end_line(
+    frames: &mut [u64],
+    domains: &mut [u64],
+    stock: &mut [u64],
+    entries: &mut [u32],
+    line: &[u8],
+    out: &mut [u8],
+    s: State,
+) -> State {
+    if s.given_up {
+        return s;
+    }
+    let feed = s.feed;
+    if feed.held == 0 {
+        return s;
+    }
+    if feed.lines >= door_feed::LINES_MOST {
+        return s;
+    }
+    run_line(
+        frames,
+        domains,
+        stock,
+        entries,
+        line,
+        out,
+        feed.lines + 1,
+        s,
+    )
 }

@@ -1,8 +1,10 @@
 use Rattle.base_rules.proofs.Facts.{needs}
-use Rattle.door_answers.proofs.{Writes.wrote_line, Shorts.line_short}
+use Rattle.door_answers.specs.Answers.{line_with}
+use Rattle.door_answers.proofs.Writes.{writes}
 use Rattle.door_answers.proofs.write_line.{Statement.statement, Tie.close, Tie.spec}
 
 pub write-line-spec : {M : Type 1} → statement M
+unfolding line_with
 write-line-spec = close (spec
-    (λ c. search needs) (λ c κs. search needs) (λ c. search needs) (λ c κs. search needs) (λ c κs. search needs) (λ c κs. search needs)
-    (λ c. search needs) (λ c. search (wrote_line, line_short)))
+    (λ c. search needs) (λ c. search needs) (λ c κs. search needs) (λ c κs. search needs) (λ c κs. search needs) (λ c. search needs)
+    (λ c. search writes))

@@ -1,8 +1,22 @@
 use Rattle.base_rules.proofs.Facts.{needs}
-use Rattle.door_session.proofs.Lines.{line_replied, line_short}
+use Rattle.door_asks.specs.Asks.{ask_of}
+use Rattle.door_session.specs.Session.{answered, on_line}
 use Rattle.door_session.proofs.reply.{Statement.statement, Tie.close, Tie.spec}
 
 pub reply-spec : {M : Type 1} → statement M
+unfolding answered on_line ask_of
 reply-spec = close (spec
-    (λ c κs. search needs) (λ c κs. search needs) (λ c κs. search needs) (λ c. search needs) (λ c. search needs) (λ c. search needs)
-    (λ c. search needs) (λ c. search needs) (λ c. (search line_replied, search line_short)))
+    (λ c κs. search needs) (λ c. search needs) (λ c κs. search needs) (λ c. search needs) (λ c κs. search needs) (λ c κs. search needs)
+    (λ c. search needs)
+    (λ c. rw (
+      ← c.before.before.before.before.before.before.read-line.ensures,
+      c.before.before.before.before.enum_told.given.1,
+      ← c.before.before.write-unreadable.ensures,
+    ))
+    (λ c. search needs) (λ c. search needs) (λ c. search needs) (λ c. search needs) (λ c. search needs)
+    (λ c. rw (
+      ← c.before.before.before.before.before.before.before.before.before.before.before.before.before.before.before.before.before.before.before.before.before.read-line.ensures,
+      c.before.before.before.before.before.before.before.before.before.before.before.before.before.before.before.before.before.before.before.c.given.1,
+      ← c.before.before.before.before.before.before.before.before.before.before.before.before.before.answer-ask.ensures,
+      ← c.before.before.write-answer.ensures,
+    )))

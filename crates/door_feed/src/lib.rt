@@ -1,0 +1,81 @@
+// A script byte by byte: which line a byte belongs to, how many of a line are held, and how far a lent buffer goes.
+ghost use Rattle.std.specs.Prelude.{◌≡◌, ◌+◌, ◌≤◌, length, take};
+ghost use Rattle.door_feed.specs.Bytes.{turn_of, held_after, least};
+
+// "Line 10001 answers 15 and ends the reading."
+pub const LINES_MOST: u64 = 10000;
+
+// One byte more than a readable line has: a line that reaches it is unreadable, however it goes on.
+pub const HELD_MOST: usize = 121;
+
+const LF: u8 = 10;
+
+// How many lines have ended, and how many bytes are held of the line that has begun.
+#[derive(Drop)]
+pub struct Feed {
+    pub lines: u64,
+    pub held: usize,
+}
+
+// What a byte does: it is held, it ends a line, or it begins line 10001.
+#[derive(Drop)]
+pub enum Turn {
+    Hold(Feed),
+    Ends(Feed),
+    Stop,
+}
+
+pub fn turn_of(f: Feed, byte: u8) -> Turn
+    ensures { result ≡ turn_of f byte }
+{
+    if f.lines >= LINES_MOST {
+        return Turn::Stop;
+    }
+    if byte == LF {
+        return Turn::Ends(Feed {
+            lines: f.lines + 1,
+            held: 0,
+        });
+    }
+    if f.held >= HELD_MOST {
+        return Turn::Hold(f);
+    }
+    Turn::Hold(Feed {
+        lines: f.lines,
+        held: f.held + 1,
+    })
+}
+
+// A byte of a line, held in its place. Bytes beyond the buffer are dropped.
+pub fn hold(buffer: &mut [u8], held: usize, byte: u8)
+    ensures { buffer.new ≡ held_after buffer.old held byte }
+{
+    if held < buffer.len() {
+        buffer[held] = byte;
+    }
+}
+
+// A number of bytes, cut to those that a text has.
+pub fn within(n: usize, text: &[u8]) -> usize
+    ensures is { result ≡ least n (length text.now) }
+    ensures small { result ≤ length text.now }
+    ensures taken { result ≡ length (take result text.now) }
+{
+    if n <= text.len() {
+        return n;
+    }
+    text.len()
+}
+
+// The place `by` bytes on, and no further than `most`.
+pub fn advanced(at: usize, by: usize, most: usize) -> usize
+    ensures { result ≡ least (at + by) most }
+{
+    if at > most {
+        return most;
+    }
+    if by > most - at {
+        return most;
+    }
+    at + by
+}
