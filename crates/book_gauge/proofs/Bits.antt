@@ -21,6 +21,8 @@ size_of a h t lo hi =
 -- a above 0, with its highest one bit at h
 value_bits : (a h k : ℕ) → k ≤ 52 → 2 ^ h ≤ a → a < 2 ^ suc h → a ≤ 2 ^ k → (x : Float) → HasValue x false a (2 ^ k)
     → to_bits binary64 x ≡ (1022 + h - k) * 2 ^ 52 + (2 ^ 52 + (a - 2 ^ h) * 2 ^ (52 - h))
+value_bits a h k K lo hi A lib.Ieee.nan v = elim v [ ]
+value_bits a h k K lo hi A (lib.Ieee.inf _) v = elim v [ ]
 value_bits a h k K lo hi A (fin s m e) v =
     let small : h ≤ k = le_of_suc-le-suc (exponent_lt h (suc k) (lt_of_le_of_lt lo (lt_of_le_of_lt A (pow-lt (omega arith))))) in
     let dropped : size (a * 2 ^ (1074 - k)) - 53 ≡ 1022 + h - k = rw (size_of a h (1074 - k) lo hi) (omega arith) in
@@ -34,6 +36,8 @@ value_bits a h k K lo hi A (fin s m e) v =
 
 zero_bits : (x : Float) (k : ℕ) → HasValue x false 0 (2 ^ k) → to_bits binary64 x ≡ 0
 unfolding size
+zero_bits lib.Ieee.nan k v = elim v [ ]
+zero_bits (lib.Ieee.inf _) k v = elim v [ ]
 zero_bits (fin s m e) k v =
     let z : m * up e ≡ 0 = eq_of_mul-eq-mul_right (2 ^ k) (pow_pos k) (m * up e) 0 (v.1 ∙ simp zero-mul) in
     rw v.0 (bits_of m e 0 (rw z (simp zero-mul)))

@@ -24,11 +24,15 @@ number_told (fin s m d) e = refl
 
 same_self : (x : Float) (a c : ℕ) → HasValue x false a c → same_bits x x ≡ true
 unfolding same_bits choose is_nan
+same_self nan a c v = elim v [ ]
+same_self (inf _) a c v = elim v [ ]
 same_self (fin s m e) a c v = rw (eq-eqb (to_bits binary64 (fin s m e)) (to_bits binary64 (fin s m e)) refl)
 
 -- ---- a whole number's float lies between -1 and 2 ^ 64
 above_minus_one : (x : Float) (a : ℕ) → HasValue x false a 1 → lt (fin true 1 (pos 0)) x ≡ true
 unfolding lt
+above_minus_one nan a v = elim v [ ]
+above_minus_one (inf _) a v = elim v [ ]
 above_minus_one (fin s m e) a v = rw v.0 (lt-ltb 0 (1 * 1 * down e + m * up e * 1) (let h = down_pos e in omega arith))
 
 -- ---- the frames of a window are a power of two that a float holds

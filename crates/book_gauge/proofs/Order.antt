@@ -31,10 +31,18 @@ cross m n e d a b c C E D p q = same_test _ _
 
 pub values_le : (x y : Float) (a b c : ℕ) → 0 < c → HasValue x false a c → HasValue y false b c → le x y ≡ leb a b
 unfolding le
+values_le lib.Ieee.nan y a b c C p q = elim p [ ]
+values_le (lib.Ieee.inf _) y a b c C p q = elim p [ ]
+values_le (fin s m e) lib.Ieee.nan a b c C p q = elim q [ ]
+values_le (fin s m e) (lib.Ieee.inf _) a b c C p q = elim q [ ]
 values_le (fin s m e) (fin t n d) a b c C p q =
     rw (p.0, q.0, le_is) (cross (m * up e) (n * up d) (down e) (down d) a b c C (down_pos e) (down_pos d) p.1 q.1)
 
 pub values_lt : (x y : Float) (a b c : ℕ) → 0 < c → HasValue x false a c → HasValue y false b c → lt x y ≡ ltb a b
 unfolding lt
+values_lt lib.Ieee.nan y a b c C p q = elim p [ ]
+values_lt (lib.Ieee.inf _) y a b c C p q = elim p [ ]
+values_lt (fin s m e) lib.Ieee.nan a b c C p q = elim q [ ]
+values_lt (fin s m e) (lib.Ieee.inf _) a b c C p q = elim q [ ]
 values_lt (fin s m e) (fin t n d) a b c C p q =
     rw (p.0, q.0) (simp ltb_is (ap not (cross (n * up d) (m * up e) (down d) (down e) b a c C (down_pos d) (down_pos e) q.1 p.1)))

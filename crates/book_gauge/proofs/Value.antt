@@ -13,6 +13,10 @@ whole_val n h = round_whole binary64 false n h
 -- a quotient and a product of exact values are the rounded quotient and product
 div_is : (x y : Float) (a b : ℕ) → 0 < b → HasValue x false a 1 → HasValue y false b 1 → div binary64 x y ≡ round binary64 false a b
 unfolding div
+div_is lib.Ieee.nan y a b B p q = elim p [ ]
+div_is (lib.Ieee.inf _) y a b B p q = elim p [ ]
+div_is (fin s m e) lib.Ieee.nan a b B p q = elim q [ ]
+div_is (fin s m e) (lib.Ieee.inf _) a b B p q = elim q [ ]
 div_is (fin s m e) (fin t n d) a b B p q =
     let p' : m * up e ≡ a * down e = rw mul-one at p.1 in let q' : n * up d ≡ b * down d = rw mul-one at q.1 in
     let D : 0 < b * down d = mul-pos B (down_pos d) in
@@ -23,6 +27,10 @@ div_is (fin s m e) (fin t n d) a b B p q =
 
 mul_is : (x y : Float) (a b c : ℕ) → 0 < c → HasValue x false a c → HasValue y false b 1 → mul binary64 x y ≡ round binary64 false (a * b) c
 unfolding mul
+mul_is lib.Ieee.nan y a b c C p q = elim p [ ]
+mul_is (lib.Ieee.inf _) y a b c C p q = elim p [ ]
+mul_is (fin s m e) lib.Ieee.nan a b c C p q = elim q [ ]
+mul_is (fin s m e) (lib.Ieee.inf _) a b c C p q = elim q [ ]
 mul_is (fin s m e) (fin t n d) a b c C p q =
     let q' : n * up d ≡ b * down d = rw mul-one at q.1 in
     rw (p.0, q.0) (round_same binary64 false (m * up e * (n * up d)) (down e * down d) (a * b) c (mul-pos (down_pos e) (down_pos d)) C

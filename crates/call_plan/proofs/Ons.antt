@@ -1,6 +1,6 @@
 -- One step down a rule by the case of a callee's answer r, which its contract gives as p, from the case that the match left.
 use Rattle.base_rules.specs.Basics.{◌≡◌, ℕ}
-pub use Rattle.base_rules.proofs.Facts.{needs}
+pub use Rattle.base_rules.proofs.Facts.{rules}
 use Rattle.base_rules.proofs.Facts.{steps}
 use Rattle.base_units.specs.declared.address.{Pfn.Pfn, Place.Place}
 use Rattle.book_ledger.specs.declared.words.Entry.{Entry}

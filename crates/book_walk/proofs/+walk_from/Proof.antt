@@ -1,6 +1,6 @@
 -- The walk calls itself on the level below: the measure is the level.
 use Rattle.base_rules.specs.Basics.{ℕ, ◌<◌}
-use Rattle.base_rules.proofs.Facts.{arith, needs, steps}
+use Rattle.base_rules.proofs.Facts.{arith, rules, steps}
 use borrow.Fn.PlainCycle.{Measures, is, falls, and}
 use Rattle.book_walk.proofs.{Walks.walk_step, +walk_from.statement, +walk_from.Tie.close}
 use Rattle.book_walk.proofs.own_frame.Reads as own
@@ -18,6 +18,6 @@ pub +walk-from-spec : {M : Type 1} → statement M
 +walk-from-spec = close μ-walk-from λ t. let below = and 3 kinds.ps (falls 3 kinds.ps ◌<◌ μ-walk-from t) walk-from.Pre in walk-from-lts.spec
     (index_at.Asked, index_at.Learnt, entry_at.Asked, entry_at.Learnt, own.Asked, own.Learnt, frame_at.Asked, frame_at.Learnt, below, walk-from.Post)
     (and 3 kinds.ps (is 3 kinds.ps μ-walk-from t) walk-from.Pre) walk-from.Post
-    (λ c κs. search needs) (λ c. rw walk_step (search steps depth 12)) (λ c κs. search needs) (λ c. rw walk_step (search steps depth 12))
-    (λ c κs. search needs) (λ c. rw walk_step (search steps depth 12)) (λ c κs. search needs) (λ c. omega arith)
+    (λ c κs. search rules) (λ c. rw walk_step (search steps depth 12)) (λ c κs. search rules) (λ c. rw walk_step (search steps depth 12))
+    (λ c κs. search rules) (λ c. rw walk_step (search steps depth 12)) (λ c κs. search rules) (λ c. omega arith)
     (λ c κs. (omega arith, tt)) (λ c. rw walk_step (search steps depth 12))

@@ -1,10 +1,10 @@
-use Rattle.base_rules.proofs.Facts.{needs}
+use Rattle.base_rules.proofs.Facts.{rules}
 use Rattle.call_carry.specs.Carry.{after_domain}
 use Rattle.call_carry.proofs.apply_domain.{Statement.statement, Tie.close, Tie.spec}
 
 pub apply-domain-spec : {M : Type 1} → statement M
 unfolding after_domain
 apply-domain-spec = close (spec
-    (λ c. search needs) (λ c κs. search needs) (λ c. search needs) (λ c. search needs)
+    (λ c. search rules) (λ c κs. search rules) (λ c. search rules) (λ c. search rules)
     (λ c. rw c.before.before.before.before.before.e.given.1 c.before.before.put-domain.ensures)
     (λ c. rw c.enum_told.given.1))

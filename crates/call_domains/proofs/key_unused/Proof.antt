@@ -1,5 +1,5 @@
 use Rattle.base_rules.specs.Basics.{◌≡◌, ◌-◌, all_from}
-use Rattle.base_rules.proofs.Facts.{refl, needs, alls}
+use Rattle.base_rules.proofs.Facts.{refl, rules, alls}
 use Rattle.call_domains.specs.Domains.{other_key, key_unused}
 use Rattle.call_domains.proofs.key_unused.{Statement.statement, Tie.InvT-loop, Tie.MeasureT-loop, Tie.Need-loop-holds, Tie.close, Tie.spec}
 
@@ -15,5 +15,5 @@ loop-holds c = refl
 
 pub key-unused-spec : {M : Type 1} → statement M
 key-unused-spec = close (spec
-    Inv-loop μ-loop loop-holds (λ c κs. search needs) (λ c. search alls) (λ c. search needs) (λ c. search needs) (λ c. search alls)
+    Inv-loop μ-loop loop-holds (λ c κs. search rules) (λ c. search alls) (λ c. search rules) (λ c. search rules) (λ c. search alls)
     (λ c. search alls))

@@ -1,5 +1,5 @@
 use Rattle.base_rules.specs.Basics.{◌≡◌, length}
-use Rattle.base_rules.proofs.Facts.{needs, ◌∙◌}
+use Rattle.base_rules.proofs.Facts.{rules, ◌∙◌}
 use Rattle.replay.proofs.read_all.{Statement.statement, Tie.InvT-loop, Tie.MeasureT-loop, Tie.close, Tie.spec}
 
 abbrev Inv-loop : InvT-loop
@@ -15,8 +15,8 @@ abbrev μ-loop : MeasureT-loop
 
 pub read-all-spec : {M : Type 1} → statement M
 read-all-spec = close (spec
-    Inv-loop μ-loop (λ c. search needs) (λ c. search needs) (λ c. search needs) (λ c. search needs) (λ c. search needs) (λ c. search needs)
-    (λ c. search needs) (λ c. search needs) (λ c. search needs) (λ c. search needs) (λ c κs. search needs) (λ c. search needs)
+    Inv-loop μ-loop (λ c. search rules) (λ c. search rules) (λ c. search rules) (λ c. search rules) (λ c. search rules) (λ c. search rules)
+    (λ c. search rules) (λ c. search rules) (λ c. search rules) (λ c. search rules) (λ c κs. search rules) (λ c. search rules)
     (λ c. let p = c.before.before.before.before.before.before.before.before.before.before.before.before.before.before.read-part.kept in
     let v = c.before.before.before.before.before.before.before.before.before.before.before.before.before.before.before.before.before.before.before.before.before.before.before.before.loop.inv in (
       p.0 ∙ v.0,
@@ -31,5 +31,5 @@ read-all-spec = close (spec
         ),
       ),
     ))
-    (λ c. search needs) (λ c. search needs) (λ c. search needs) (λ c. search needs) (λ c. search needs) (λ c. search needs)
-    (λ c. search needs) (λ c. search needs))
+    (λ c. search rules) (λ c. search rules) (λ c. search rules) (λ c. search rules) (λ c. search rules) (λ c. search rules)
+    (λ c. search rules) (λ c. search rules))

@@ -1,5 +1,5 @@
 use Rattle.base_rules.specs.Basics.{◌≡◌, ℕ, ◌+◌, ◌-◌, ◌^◌, ◌<◌, length}
-use Rattle.base_rules.proofs.Facts.{needs, arith}
+use Rattle.base_rules.proofs.Facts.{rules, arith}
 use Rattle.replay.proofs.take_part.{Statement.statement, Tie.InvT-loop, Tie.MeasureT-loop, Tie.close, Tie.spec}
 
 abbrev Inv-loop : InvT-loop
@@ -21,12 +21,12 @@ fewer i n h = omega arith
 
 pub take-part-spec : {M : Type 1} → statement M
 take-part-spec = close (spec
-    Inv-loop μ-loop (λ c. search needs) (λ c. search needs) (λ c. search needs) (λ c. search needs) (λ c. search needs) (λ c. search needs)
-    (λ c. search needs) (λ c. search needs) (λ c. search needs) (λ c κs. search needs)
+    Inv-loop μ-loop (λ c. search rules) (λ c. search rules) (λ c. search rules) (λ c. search rules) (λ c. search rules) (λ c. search rules)
+    (λ c. search rules) (λ c. search rules) (λ c. search rules) (λ c κs. search rules)
     (λ c. record {
       fits = next _ _ c.before.before.before.before.before.before.before.before.before.before.before.before.before.before.before.before.before.before.before.before.before.loop-test.taken
           c.before.before.before.before.before.before.before.before.before.before.before.before.before.before.before.before.before.before.before.before.before.before.before.before.before.before.before.before.before.before.good.1.1.1.1.1.1.0.0;
     })
     (λ c. fewer _ _ c.before.before.before.before.before.before.before.before.before.before.before.before.before.before.before.before.before.before.before.before.before.loop-test.taken)
-    (λ c. search needs) (λ c. search needs) (λ c. search needs) (λ c. search needs) (λ c. search needs) (λ c. search needs)
-    (λ c. search needs) (λ c. search needs))
+    (λ c. search rules) (λ c. search rules) (λ c. search rules) (λ c. search rules) (λ c. search rules) (λ c. search rules)
+    (λ c. search rules) (λ c. search rules))

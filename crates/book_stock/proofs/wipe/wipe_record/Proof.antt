@@ -1,4 +1,4 @@
-use Rattle.base_rules.proofs.Facts.{steps, needs}
+use Rattle.base_rules.proofs.Facts.{steps, rules}
 use Rattle.book_stock.specs.Wipe.{wiped_at}
 use Rattle.book_stock.proofs.Wipes.{wiped_as}
 use Rattle.book_stock.proofs.wipe.wipe_record.{Statement.statement, Tie.close, Tie.spec}
@@ -6,5 +6,5 @@ use Rattle.book_stock.proofs.wipe.wipe_record.{Statement.statement, Tie.close, T
 pub wipe-record-spec : {M : Type 1} → statement M
 unfolding wiped_at
 wipe-record-spec = close (spec
-    (λ c. search needs) (λ c. search needs) (λ c. search needs) (λ c. search needs) (λ c. search needs) (λ c. search needs)
-    (λ c κs. search needs) (λ c. search needs) (λ c. search (wiped_as, needs)) (λ c. search steps))
+    (λ c. search rules) (λ c. search rules) (λ c. search rules) (λ c. search rules) (λ c. search rules) (λ c. search rules)
+    (λ c κs. search rules) (λ c. search rules) (λ c. search (wiped_as, rules)) (λ c. search steps))

@@ -1,17 +1,17 @@
-use Rattle.base_rules.proofs.Facts.{needs}
+use Rattle.base_rules.proofs.Facts.{rules}
 use Rattle.call_host.specs.Calls.{plan_of}
 use Rattle.call_host.proofs.call.plan_of.{Statement.statement, Tie.close, Tie.spec}
 
 pub plan-of-spec : {M : Type 1} → statement M
 unfolding plan_of
 plan-of-spec = close (spec
-    (λ c. search needs) (λ c κs. search needs) (λ c. search needs) (λ c κs. search needs) (λ c. search needs) (λ c κs. search needs)
-    (λ c. search needs) (λ c κs. search needs) (λ c. search needs) (λ c κs. search needs) (λ c. search needs) (λ c κs. search needs)
-    (λ c. search needs) (λ c κs. search needs) (λ c. search needs) (λ c κs. search needs) (λ c. search needs) (λ c κs. search needs)
-    (λ c. search needs) (λ c κs. search needs) (λ c. search needs) (λ c κs. search needs) (λ c. search needs) (λ c κs. search needs)
-    (λ c. search needs) (λ c κs. search needs) (λ c. search needs) (λ c κs. search needs) (λ c. search needs) (λ c κs. search needs)
-    (λ c. search needs) (λ c κs. search needs) (λ c. search needs) (λ c κs. search needs) (λ c. search needs) (λ c κs. search needs)
-    (λ c. search needs) (λ c κs. search needs)
+    (λ c. search rules) (λ c κs. search rules) (λ c. search rules) (λ c κs. search rules) (λ c. search rules) (λ c κs. search rules)
+    (λ c. search rules) (λ c κs. search rules) (λ c. search rules) (λ c κs. search rules) (λ c. search rules) (λ c κs. search rules)
+    (λ c. search rules) (λ c κs. search rules) (λ c. search rules) (λ c κs. search rules) (λ c. search rules) (λ c κs. search rules)
+    (λ c. search rules) (λ c κs. search rules) (λ c. search rules) (λ c κs. search rules) (λ c. search rules) (λ c κs. search rules)
+    (λ c. search rules) (λ c κs. search rules) (λ c. search rules) (λ c κs. search rules) (λ c. search rules) (λ c κs. search rules)
+    (λ c. search rules) (λ c κs. search rules) (λ c. search rules) (λ c κs. search rules) (λ c. search rules) (λ c κs. search rules)
+    (λ c. search rules) (λ c κs. search rules)
     (λ c. rw c.before.before.c.given.1 c.plan-create.ensures) (λ c. rw c.before.before.c2.given.1 c.plan-life.ensures)
     (λ c. rw c.before.before.c3.given.1 c.plan-addcx.ensures) (λ c. rw c.before.before.c4.given.1 c.plan-op.ensures)
     (λ c. rw c.before.before.c5.given.1 c.plan-septadd.ensures)

@@ -1,5 +1,5 @@
 use Rattle.base_rules.specs.Basics.{◌-◌}
-use Rattle.base_rules.proofs.Facts.{refl, needs, Passed, all_start, alls}
+use Rattle.base_rules.proofs.Facts.{refl, rules, Passed, all_start, alls}
 use Rattle.base_units.specs.Limits.{table_entries}
 use Rattle.call_plan.specs.Entries.{free_at, table_empty}
 use Rattle.call_plan.proofs.entry.table_empty.{Statement.statement, Tie.InvT-loop, Tie.MeasureT-loop, Tie.Need-loop-holds, Tie.close, Tie.spec}
@@ -16,5 +16,5 @@ loop-holds c = all_start _ _ refl
 
 pub table-empty-spec : {M : Type 1} → statement M
 table-empty-spec = close (spec
-    Inv-loop μ-loop loop-holds (λ c κs. search needs) (λ c. search alls) (λ c. search needs) (λ c. search needs) (λ c. search (needs, alls))
+    Inv-loop μ-loop loop-holds (λ c κs. search rules) (λ c. search alls) (λ c. search rules) (λ c. search rules) (λ c. search (rules, alls))
     (λ c. search alls))
