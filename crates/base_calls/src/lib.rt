@@ -1,11 +1,12 @@
 // The host calls of documents 01 and 02 by value, and what the module answers to them.
+#![tactic(auto)]
 ghost use Rattle.std.specs.Prelude.{◌≡◌};
 ghost use Rattle.base_calls.specs.Answers.{values_of};
 
 use base_units::address::{Gpa, Hpa};
 
 // `domain` is its TDR's hpa (the paper's D), `frame` a frame's (F); operands in the order of the paper's table.
-#[derive(Drop)]
+#[derive(Clone, Copy)]
 pub enum Call {
     Create {
         frame: Hpa,
@@ -83,7 +84,7 @@ pub enum Call {
 }
 
 // What a host asks: one of its calls, the setting of the gauge's marks (raise, clear), a fresh start, or nothing that has a name.
-#[derive(Drop)]
+#[derive(Clone, Copy)]
 pub enum Ask {
     Host(Call),
     Marks(f64, f64),
@@ -93,7 +94,7 @@ pub enum Ask {
 
 // The paper's answers: accepted, with a page's type and owner or an entry's level, state and hpa where the call reads them; or a
 // number of "When the module says no", with the operand at fault (from 0), or with the level and state of 6 and 7.
-#[derive(Drop)]
+#[derive(Clone, Copy)]
 pub enum Answer {
     Done,
     Page(u64, Hpa),
@@ -104,7 +105,7 @@ pub enum Answer {
 
 // An answer as the paper writes it: its number and all that is read out.
 #[repr(C)]
-#[derive(Drop)]
+#[derive(Clone, Copy)]
 pub struct Values {
     pub number: u64,
     pub kind: u64,

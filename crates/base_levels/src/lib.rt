@@ -1,4 +1,5 @@
 // The level table: how many low bits of a gpa are zero at a level, and from which bit on its entry's index stands.
+#![tactic(auto)]
 ghost use Rattle.std.specs.Prelude.{◌≡◌};
 ghost use Rattle.base_levels.specs.Level.{row_of, level_ok, gpa_fits, index_at};
 
@@ -6,7 +7,7 @@ use base_units::address::Gpa;
 use base_units::limits;
 use base_units::limits::{GPA_END_BYTES, TABLE_ENTRIES};
 
-#[derive(Drop)]
+#[derive(Clone, Copy)]
 pub struct LevelRow {
     pub low: u64,
     pub shift: u64,

@@ -1,4 +1,5 @@
 // Decimal numbers: no sign, no leading zero but 0 itself, at most 2^64 - 1.
+#![tactic(auto)]
 ghost use Rattle.std.specs.Prelude.{◌≡◌, ◌-◌, ◌≤◌};
 ghost use Rattle.base_numbers.specs.Number.{nought, is_digit, number_from, number_read};
 
@@ -9,7 +10,7 @@ const NINE: u8 = b'9';
 const MOST: u64 = 18446744073709551615;
 
 // What a field says as a number.
-#[derive(Drop)]
+#[derive(Clone, Copy)]
 pub enum Number {
     Is(u64),
     No,

@@ -9,20 +9,20 @@ const ADDRESS_FRAMES: u64 = 4503599627370496;
 
 // A host physical address, in bytes.
 #[repr(C)]
-#[derive(Drop)]
+#[derive(Clone, Copy)]
 pub struct Hpa(pub u64);
 
 // A frame's number in the window: 0 is the frame at the base.
-#[derive(Drop)]
+#[derive(Clone, Copy)]
 pub struct Pfn(pub usize);
 
 // A guest physical address, in bytes.
 #[repr(C)]
-#[derive(Drop)]
+#[derive(Clone, Copy)]
 pub struct Gpa(pub u64);
 
 // What an hpa names in a window.
-#[derive(Drop)]
+#[derive(Clone, Copy)]
 pub enum Place {
     At(Pfn),
     Outside,

@@ -8,7 +8,7 @@ ghost use Rattle.book_gauge.specs.Update.{lamp_after, after, with_marks, fresh_g
 use base_units::limits;
 
 #[repr(C)]
-#[derive(Drop)]
+#[derive(Clone, Copy)]
 pub struct Gauge {
     pub raise: f64,
     pub clear: f64,

@@ -7,7 +7,7 @@ use base_units::limits;
 use base_units::limits::{RECORD_WORDS, TABLE_ENTRIES};
 use book_stock::bits::WORD_BITS;
 
-#[derive(Drop)]
+#[derive(Clone, Copy)]
 pub struct Sizes {
     pub frames: usize,
     pub records: usize,

@@ -8,7 +8,7 @@ use base_units::address::Pfn;
 // An epoch has 32 bits.
 const EPOCHS: u64 = 4294967296;
 
-#[derive(Drop)]
+#[derive(Clone, Copy)]
 pub struct Frame {
     pub kind: u64,
     pub owner: Pfn,
@@ -17,7 +17,7 @@ pub struct Frame {
     pub size: u64,
 }
 
-#[derive(Drop)]
+#[derive(Clone, Copy)]
 pub struct Domain {
     pub key: u64,
     pub life: u64,
@@ -28,7 +28,7 @@ pub struct Domain {
     pub width: u64,
 }
 
-#[derive(Drop)]
+#[derive(Clone, Copy)]
 pub struct Entry {
     pub state: u64,
     pub frame: Pfn,

@@ -14,7 +14,7 @@ use book_ledger::{sizes, tables};
 use book_stock::bits;
 
 // What each number of a frame of a type stays below: 1 where the type lacks it, so that it holds 0.
-#[derive(Drop)]
+#[derive(Clone, Copy)]
 pub struct FrameLimits {
     pub owner: u64,
     pub number: u64,

@@ -7,7 +7,7 @@ pub const WORD_BITS: usize = 64;
 const WORD_MOST: u64 = 18446744073709551615;
 
 // The lowest unused block of a range, where there is one.
-#[derive(Drop)]
+#[derive(Clone, Copy)]
 pub enum Lowest {
     At(usize),
     Full,

@@ -10,7 +10,7 @@ use book_stock::bits;
 
 // How a walk ends: at an entry, by its block and index; stopped, with the level and state there (answer 6); or at a frame that it
 // may not follow (answer 14).
-#[derive(Drop)]
+#[derive(Clone, Copy)]
 pub enum Walk {
     At(usize, usize),
     Stopped(usize, u64),

@@ -14,7 +14,7 @@ use book_ledger::count;
 use call_plan::edit::Plan;
 
 // What a call answers, and the gauge after it.
-#[derive(Drop)]
+#[derive(Clone, Copy)]
 pub struct Reply {
     pub answer: Answer,
     pub gauge: Gauge,

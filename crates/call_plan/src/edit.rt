@@ -4,20 +4,20 @@ use base_calls::Answer;
 use base_units::address::Pfn;
 use book_ledger::words::{Domain, Entry, Frame};
 
-#[derive(Drop)]
+#[derive(Clone, Copy)]
 pub enum FrameEdit {
     Keep,
     Set(Pfn, Frame),
 }
 
 // A record's control page, by its place in the list.
-#[derive(Drop)]
+#[derive(Clone, Copy)]
 pub enum PageEdit {
     Keep,
     Set(usize, usize, Pfn),
 }
 
-#[derive(Drop)]
+#[derive(Clone, Copy)]
 pub enum DomainEdit {
     Keep,
     Set(usize, Domain),
@@ -25,7 +25,7 @@ pub enum DomainEdit {
 
 // A table taken, whose block and in-use bit have its number; a record taken, by its in-use bit, the block of its root and its number; a
 // table or a record given back, by its in-use bit.
-#[derive(Drop)]
+#[derive(Clone, Copy)]
 pub enum StockEdit {
     Keep,
     Table(usize),
@@ -34,13 +34,13 @@ pub enum StockEdit {
 }
 
 // An entry, by its block and index.
-#[derive(Drop)]
+#[derive(Clone, Copy)]
 pub enum EntryEdit {
     Keep,
     Set(usize, usize, Entry),
 }
 
-#[derive(Drop)]
+#[derive(Clone, Copy)]
 pub struct Edit {
     pub frame: FrameEdit,
     pub page: PageEdit,
@@ -50,14 +50,14 @@ pub struct Edit {
 }
 
 // Every record in use whose lifecycle is `from` gets the lifecycle `to`.
-#[derive(Drop)]
+#[derive(Clone, Copy)]
 pub struct Sweep {
     pub from: u64,
     pub to: u64,
 }
 
 // An answer that changes no table, or what an accepted call writes: of one domain, or of each.
-#[derive(Drop)]
+#[derive(Clone, Copy)]
 pub enum Plan {
     Say(Answer),
     Do(Edit),

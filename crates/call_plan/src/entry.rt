@@ -14,7 +14,7 @@ use book_ledger::words::Entry;
 use book_walk::Walk;
 
 // An entry, with its block and index, or why there is none to be had.
-#[derive(Drop)]
+#[derive(Clone, Copy)]
 pub enum Reach {
     At(usize, usize, Entry),
     Not(Answer),

@@ -14,7 +14,7 @@ use book_ledger::{sizes, tables};
 use book_stock::bits;
 
 // The frame that an operand names, or the operand at fault.
-#[derive(Drop)]
+#[derive(Clone, Copy)]
 pub enum Operand {
     Frame(Pfn),
     Bad(u64),
@@ -24,7 +24,7 @@ pub enum Operand {
 pub const NO_FRAME: Operand = Operand::Frame(Pfn(0));
 
 // A domain: its TDR, its record's number and in-use bit, the block and the level of its root, and its scalars.
-#[derive(Drop)]
+#[derive(Clone, Copy)]
 pub struct Subject {
     pub tdr: Pfn,
     pub rec: usize,
@@ -34,14 +34,14 @@ pub struct Subject {
     pub dom: Domain,
 }
 
-#[derive(Drop)]
+#[derive(Clone, Copy)]
 pub enum Lookup {
     Is(Subject),
     Not(Answer),
 }
 
 // Whom a call is about: D, and F's frame.
-#[derive(Drop)]
+#[derive(Clone, Copy)]
 pub enum Parties {
     Are(Subject, Pfn),
     Not(Answer),

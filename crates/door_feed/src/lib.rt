@@ -1,4 +1,5 @@
 // A script byte by byte: which line a byte belongs to, how many of a line are held, and how far a lent buffer goes.
+#![tactic(auto)]
 ghost use Rattle.std.specs.Prelude.{◌≡◌, ◌+◌, ◌≤◌, length, take};
 ghost use Rattle.door_feed.specs.Bytes.{turn_of, held_after, least};
 
@@ -11,14 +12,14 @@ pub const HELD_MOST: usize = 121;
 const LF: u8 = 10;
 
 // How many lines have ended, and how many bytes are held of the line that has begun.
-#[derive(Drop)]
+#[derive(Clone, Copy)]
 pub struct Feed {
     pub lines: u64,
     pub held: usize,
 }
 
 // What a byte does: it is held, it ends a line, or it begins line 10001.
-#[derive(Drop)]
+#[derive(Clone, Copy)]
 pub enum Turn {
     Hold(Feed),
     Ends(Feed),

@@ -7,7 +7,7 @@ use base_units::address::{Gpa, Hpa};
 
 // D is the domain's TDR, F a frame. A call reads the operands that the paper gives it and no others.
 #[repr(C)]
-#[derive(Drop)]
+#[derive(Clone, Copy)]
 pub struct Request {
     pub call: u64,
     pub domain: Hpa,

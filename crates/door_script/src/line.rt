@@ -39,14 +39,14 @@ const TABLE: [u8; 382] = *b"create\thpa\t#\tkey\t#\n\
     readentry\thpa\t#\tgpa\t#\tlevel\t#\n\
     cachewb\n";
 
-#[derive(Drop)]
+#[derive(Clone, Copy)]
 pub enum Line {
     Call(Call),
     Unreadable,
 }
 
 // How many bytes of a line a byte of a row stands for.
-#[derive(Drop)]
+#[derive(Clone, Copy)]
 pub enum Taken {
     Bytes(usize),
     Nothing,

@@ -12,7 +12,7 @@ use door_script::line;
 use door_script::line::Line;
 
 // A line answered: the gauge afterwards, and how many bytes of the answer stand in the lent output.
-#[derive(Drop)]
+#[derive(Clone, Copy)]
 pub struct Replied {
     pub gauge: Gauge,
     pub wrote: usize,

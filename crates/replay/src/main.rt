@@ -21,7 +21,7 @@ const ANSWER_BYTES: usize = 128;
 
 // Where the replay stands: the gauge, the script so far, the bytes of output not yet written, whether the reading is over (at the
 // input's end, at line 10001, or given up), and whether it was given up: then no line more is run and nothing more is written.
-#[derive(Drop)]
+#[derive(Clone, Copy)]
 pub struct State {
     pub gauge: Gauge,
     pub feed: Feed,

@@ -1,0 +1,23 @@
+use Rattle.base_rules.proofs.Facts.{rules}
+use Rattle.base_calls.specs.Answers.{values_of}
+use Rattle.base_calls.proofs.values_of.Goals as goal
+
+pub returns-in-Done : goal.returns-in-Done
+unfolding values_of
+returns-in-Done c = rw c.before.enum_told.given.1 c.plain.ensures
+
+pub returns-in-Page : goal.returns-in-Page
+unfolding values_of
+returns-in-Page c = rw c.before.a.given.1
+
+pub returns-in-Entry : goal.returns-in-Entry
+unfolding values_of
+returns-in-Entry c = rw c.before.a2.given.1
+
+pub returns-in-No : goal.returns-in-No
+unfolding values_of
+returns-in-No c = rw c.before.before.a3.given.1 c.plain2.ensures
+
+pub returns-in-Stop : goal.returns-in-Stop
+unfolding values_of
+returns-in-Stop c = rw c.before.a4.given.1

@@ -1,0 +1,11 @@
+use Rattle.base_rules.proofs.Facts.{List·getD-eq-default, rules}
+use Rattle.base_levels.specs.{Level.levels, Level.row_of, declared.LevelRow.LevelRow}
+use Rattle.base_levels.proofs.row_of.Goals as goal
+
+pub returns-then-level-lt-ROWS : goal.returns-then-level-lt-ROWS
+unfolding row_of
+returns-then-level-lt-ROWS c = search steps depth 12
+
+pub returns : goal.returns
+unfolding row_of
+returns c = search steps depth 12
