@@ -1,4 +1,5 @@
 // The door for callers in C and Rust: include/reefnettle.h says what it takes, gives and asks of them.
+#![tactic(auto)]
 ghost use Rattle.std.specs.Prelude.{◌≡◌};
 ghost use Rattle.book_ledger.specs.Tables.{lent};
 ghost use Rattle.reefnettle.specs.Door.{handed_out, door_of, version};

@@ -1,5 +1,6 @@
 // Replays a script: calls on standard input, a line each; their answers on standard output. Only reading, writing and the loops over them
 // stand here: what a byte does and what a line answers is proved in the crates feed and session.
+#![tactic(auto)]
 use base_calls::Ask;
 use base_units::address::Hpa;
 use book_gauge::Gauge;
