@@ -4,4 +4,4 @@ use Rattle.base_calls.proofs.plain.Goals as goal
 
 pub returns : goal.returns
 unfolding values_of
-returns c = search steps depth 12
+returns c = search rules

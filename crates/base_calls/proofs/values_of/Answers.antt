@@ -4,20 +4,20 @@ use Rattle.base_calls.proofs.values_of.Goals as goal
 
 pub returns-in-Done : goal.returns-in-Done
 unfolding values_of
-returns-in-Done c = rw c.before.enum_told.given.1 c.plain.ensures
+returns-in-Done c = rw c.in-Done.is c.plain.ensures
 
 pub returns-in-Page : goal.returns-in-Page
 unfolding values_of
-returns-in-Page c = rw c.before.a.given.1
+returns-in-Page c = rw c.in-Page.is
 
 pub returns-in-Entry : goal.returns-in-Entry
 unfolding values_of
-returns-in-Entry c = rw c.before.a2.given.1
+returns-in-Entry c = rw c.in-Entry.is
 
 pub returns-in-No : goal.returns-in-No
 unfolding values_of
-returns-in-No c = rw c.before.before.a3.given.1 c.plain2.ensures
+returns-in-No c = rw c.in-No.is c.plain-in-No.ensures
 
 pub returns-in-Stop : goal.returns-in-Stop
 unfolding values_of
-returns-in-Stop c = rw c.before.a4.given.1
+returns-in-Stop c = rw c.in-Stop.is

@@ -10,12 +10,12 @@ returns-then-gpa-ge-GPA_END_BYTES c = search steps depth 12
 
 pub overflow_shl-result : goal.overflow_shl-result
 unfolding gpa_fits
-overflow_shl-result c = rw c.row_of.ensures (low_below _)
+overflow_shl-result c = rw c.row_of-row.ensures (low_below _)
 
 pub nonzero_rem-result : goal.nonzero_rem-result
 unfolding gpa_fits
-nonzero_rem-result c = rw (c.before.row_of.ensures, one_shl, low_below) (pow_pos _)
+nonzero_rem-result c = rw (c.row_of-row.ensures, one_shl, low_below) (pow_pos _)
 
 pub returns : goal.returns
 unfolding gpa_fits
-returns c = rw (c.before.row_of.ensures, one_shl, low_below) (search steps)
+returns c = rw (c.row_of-row.ensures, one_shl, low_below) (search steps)

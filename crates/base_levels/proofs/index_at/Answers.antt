@@ -5,8 +5,8 @@ use Rattle.base_levels.proofs.index_at.Goals as goal
 
 pub overflow_shr-result : goal.overflow_shr-result
 unfolding index_at
-overflow_shr-result c = rw c.before.row_of.ensures (shift_below _)
+overflow_shr-result c = rw c.row_of-row.ensures (shift_below _)
 
 pub returns : goal.returns
 unfolding index_at
-returns c = rw c.before.row_of.ensures
+returns c = rw c.row_of-row.ensures

@@ -4,8 +4,8 @@ use Rattle.base_levels.proofs.row_of.Goals as goal
 
 pub returns-then-level-lt-ROWS : goal.returns-then-level-lt-ROWS
 unfolding row_of
-returns-then-level-lt-ROWS c = search steps depth 12
+returns-then-level-lt-ROWS c = search rules
 
 pub returns : goal.returns
 unfolding row_of
-returns c = search steps depth 12
+returns c = rw (List·getD-eq-default {A = LevelRow} levels _ c.if-level-lt-ROWS.false)

@@ -1,0 +1,20 @@
+use Rattle.base_rules.proofs.Facts.{steps, rules}
+use lib.Ieee.{of_bits, neg}
+use Rattle.book_gauge.specs.Marks.{cut_to}
+use Rattle.book_gauge.proofs.mark_count.Goals as goal
+
+pub returns-then-k-frames : goal.returns-then-k-frames
+unfolding cut_to of_bits neg
+returns-then-k-frames c = search steps depth 12
+
+pub returns-then-y-2 : goal.returns-then-y-2
+unfolding cut_to of_bits neg
+returns-then-y-2 c = search steps depth 12
+
+pub returns-else-y-2 : goal.returns-else-y-2
+unfolding cut_to of_bits neg
+returns-else-y-2 c = search steps depth 12
+
+pub returns-else-y : goal.returns-else-y
+unfolding cut_to of_bits neg
+returns-else-y c = search steps depth 12
