@@ -4,4 +4,4 @@ use Rattle.base_rules.proofs.Facts.{steps}
 use Rattle.book_gauge.proofs.fill_of.Goals as goal
 
 pub returns : goal.returns
-returns c = filled _ _ _ (rw (c.before.nearest-u64-to-f64.ensures, c.nearest-u64-to-f642.ensures))
+returns c = filled _ _ _ (rw (c.nearest_u64_to_f64.ensures, c.nearest_u64_to_f64-2.ensures))

@@ -13,11 +13,11 @@ returns-then-b c = search (steps, nan_told, number_told) depth 12
 
 pub float_to_bits-result : goal.float_to_bits-result
 unfolding same_bits
-float_to_bits-result c = rw (number_told _ c.before.if1.left) tt
+float_to_bits-result c = rw (number_told _ c.if-a.false) tt
 
 pub float_to_bits-result-2 : goal.float_to_bits-result-2
 unfolding same_bits
-float_to_bits-result-2 c = rw (number_told _ c.if2.left) tt
+float_to_bits-result-2 c = rw (number_told _ c.if-b.false) tt
 
 pub returns : goal.returns
 unfolding same_bits

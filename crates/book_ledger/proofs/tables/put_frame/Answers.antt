@@ -1,0 +1,12 @@
+use Rattle.base_rules.proofs.Facts.{set_out, rules}
+use Rattle.book_ledger.specs.Tables.{set_frame}
+use Rattle.base_rules.proofs.Facts.{steps}
+use Rattle.book_ledger.proofs.tables.put_frame.Goals as goal
+
+pub returns-then-at-frames : goal.returns-then-at-frames
+unfolding set_frame
+returns-then-at-frames c = rw c.pack_frame.ensures
+
+pub returns-else-at-frames : goal.returns-else-at-frames
+unfolding set_frame
+returns-else-at-frames c = rw (set_out _ _ _ c.if-at-frames.false)
