@@ -12,7 +12,7 @@ use std::process;
 const ARCHIVE: &str = "libreefnettle.a";
 const FOLDER_VARIABLE: &str = "REEFNETTLE_LIB_DIR";
 
-/// Where `rt staticlib` writes to, seen from this package's folder.
+/// Where `tools/archive` writes to, seen from this package's folder.
 const FOLDER: &str = "../target/staticlib";
 
 /// A variable that cargo sets when it runs this program. What `env!` says when it
@@ -22,7 +22,7 @@ fn set_by_cargo(variable: &str) -> OsString {
 }
 
 /// The archive in the folder that the environment names, else in the one that
-/// `rt staticlib` writes to. A relative name is relative to this package.
+/// `tools/archive` writes to. A relative name is relative to this package.
 pub fn archive(named: Option<OsString>) -> PathBuf {
     named
         .map_or_else(|| PathBuf::from(FOLDER), PathBuf::from)
@@ -50,7 +50,7 @@ fn link(archive: &Path) -> Result<(), String> {
     let from = package.join(archive);
     if !from.is_file() {
         return Err(format!(
-            "there is no {}: make it by `rt staticlib reefnettle` in the top folder of the \
+            "there is no {}: make it by `tools/archive` in the top folder of the \
              repository, or name its folder in {FOLDER_VARIABLE}",
             from.display()
         ));

@@ -39,7 +39,7 @@
 //! ```
 //!
 //! The archive is looked for in `target/staticlib` of the repository, where
-//! `rt staticlib reefnettle` writes it, or in the folder that the environment
+//! `tools/archive` writes it, or in the folder that the environment
 //! variable `REEFNETTLE_LIB_DIR` names. It is for Linux on x86-64. It has no data
 //! of its own: two threads may ask at once, each its own model.
 

@@ -110,8 +110,8 @@ pub fn version() -> u64 {
 fn must_fit(version: u64) {
     assert_eq!(
         version, VERSION,
-        "libreefnettle.a has another version than this package is for: make it anew, by `rt \
-         staticlib reefnettle` in the repository that the package is from"
+        "libreefnettle.a has another version than this package is for: make it anew, by \
+         `tools/archive` in the repository that the package is from"
     );
 }
 

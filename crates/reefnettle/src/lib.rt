@@ -1,4 +1,4 @@
-// The door for callers in C and Rust: include/reefnettle.h says what it takes, gives and asks of them.
+// The door for callers in C and Rust: include/reefnettle.h says what it takes, gives and asks of them. The crate reefnettle_c exports it to C.
 #![tactic(auto)]
 ghost use Rattle.std.specs.Prelude.{◌≡◌};
 ghost use Rattle.book_ledger.specs.Tables.{lent};
@@ -10,8 +10,7 @@ use book_gauge::Gauge;
 use door_requests::Request;
 
 // Any request on any lent tables and gauge.
-#[unsafe(no_mangle)]
-pub extern "C" fn reefnettle_ask(
+pub fn reefnettle_ask(
     base: Hpa,
     frames: &mut [u64],
     domains: &mut [u64],
@@ -29,8 +28,7 @@ pub extern "C" fn reefnettle_ask(
 }
 
 // REEFNETTLE_VERSION of the header, for a caller to compare.
-#[unsafe(no_mangle)]
-pub extern "C" fn reefnettle_version() -> u64
+pub fn reefnettle_version() -> u64
     ensures { result ≡ version }
 {
     3

@@ -1,17 +1,13 @@
 // Replays a script: calls on standard input, a line each; their answers on standard output. Only reading, writing and the loops over them
 // stand here: what a byte does and what a line answers is proved in the crates feed and session.
 #![tactic(auto)]
+
 use base_calls::Ask;
 use base_units::address::Hpa;
 use book_gauge::Gauge;
 use book_ledger::count;
 use door_feed::{Feed, Turn};
-
-const STDIN: i32 = 0;
-
-const STDOUT: i32 = 1;
-
-const STDERR: i32 = 2;
+use std::io::Read;
 
 const BASE_BYTES: u64 = 1073741824;
 
@@ -31,7 +27,7 @@ pub struct State {
     pub given_up: bool,
 }
 
-fn main() {
+fn main(rt: HostRuntime) {
     let mut frames = [0u64; 1024];
     let mut domains = [0u64; 20];
     let mut stock = [0u64; 1];
@@ -40,6 +36,7 @@ fn main() {
     let mut line = [0u8; 121];
     let mut out = [0u8; 4096];
     replay(
+        rt,
         &mut frames,
         &mut domains,
         &mut stock,
@@ -52,6 +49,7 @@ fn main() {
 
 // A fresh start with the program's marks, the first line, the script, the last line.
 fn replay(
+    rt: HostRuntime,
     frames: &mut [u64],
     domains: &mut [u64],
     stock: &mut [u64],
@@ -62,8 +60,8 @@ fn replay(
 ) {
     let gauge = start(frames, domains, stock, entries);
     let begun = begin(out, gauge);
-    let ended = run_script(frames, domains, stock, entries, input, line, out, begun);
-    finish(frames, out, ended);
+    let ended = run_script(rt, frames, domains, stock, entries, input, line, out, begun);
+    finish(rt, frames, out, ended);
 }
 
 fn start(frames: &mut [u64], domains: &mut [u64], stock: &mut [u64], entries: &mut [u32]) -> Gauge {
@@ -76,6 +74,7 @@ fn start(frames: &mut [u64], domains: &mut [u64], stock: &mut [u64], entries: &m
 }
 
 fn run_script(
+    rt: HostRuntime,
     frames: &mut [u64],
     domains: &mut [u64],
     stock: &mut [u64],
@@ -85,8 +84,8 @@ fn run_script(
     out: &mut [u8],
     begun: State,
 ) -> State {
-    let read = read_all(frames, domains, stock, entries, input, line, out, begun);
-    end_line(frames, domains, stock, entries, line, out, read)
+    let read = read_all(rt, frames, domains, stock, entries, input, line, out, begun);
+    end_line(rt, frames, domains, stock, entries, line, out, read)
 }
 
 fn begin(out: &mut [u8], gauge: Gauge) -> State {
@@ -101,8 +100,8 @@ fn begin(out: &mut [u8], gauge: Gauge) -> State {
 }
 
 // The last line says that the whole script was read and answered. A run that was given up has none.
-fn finish(frames: &[u64], out: &mut [u8], s: State) {
-    let done = flush(out, s);
+fn finish(rt: HostRuntime, frames: &[u64], out: &mut [u8], s: State) {
+    let done = flush(rt, out, s);
     if done.given_up {
         return;
     }
@@ -110,20 +109,25 @@ fn finish(frames: &[u64], out: &mut [u8], s: State) {
     let last = door_answers::write_last(out, count::used_frames(frames), g.lamp);
     let n = door_feed::within(last, out);
     let closed = with_pending(done, n);
-    flush(out, closed);
+    flush(rt, out, closed);
 }
 
 // The pending output is written, or the run is given up.
-fn flush(out: &[u8], s: State) -> State {
+fn flush(rt: HostRuntime, out: &[u8], s: State) -> State {
     if s.given_up {
         return s;
     }
     let n = door_feed::within(s.pending, out);
-    if io::write_all(STDOUT, &out[..n]) {
+    if rt.write_all(&out[..n]).is_ok() {
         return with_pending(s, 0);
     }
-    io::write_all(STDERR, b"replay: the answers can't be written\n");
+    tell(rt, b"replay: the answers can't be written\n");
     give_up(s)
+}
+
+// What can't be said on standard error isn't said.
+fn tell(rt: HostRuntime, words: &[u8]) {
+    let _ = rt.stderr().write_all(words);
 }
 
 fn with_pending(old: State, pending: usize) -> State {
@@ -145,16 +149,17 @@ fn give_up(old: State) -> State {
 }
 
 // Room for one answer more.
-fn with_room(out: &[u8], s: State) -> State {
+fn with_room(rt: HostRuntime, out: &[u8], s: State) -> State {
     let n = door_feed::within(s.pending, out);
     if out.len() - n < ANSWER_BYTES {
-        return flush(out, s);
+        return flush(rt, out, s);
     }
     s
 }
 
 // The line held, run as line `number`.
 fn run_line(
+    rt: HostRuntime,
     frames: &mut [u64],
     domains: &mut [u64],
     stock: &mut [u64],
@@ -164,7 +169,7 @@ fn run_line(
     number: u64,
     old: State,
 ) -> State {
-    let s = with_room(out, old);
+    let s = with_room(rt, out, old);
     let gauge = s.gauge;
     let feed = s.feed;
     let held = door_feed::within(feed.held, line);
@@ -192,8 +197,8 @@ fn run_line(
 }
 
 // Line 10001 answers 15 and ends the reading.
-fn stop_at(out: &mut [u8], old: State) -> State {
-    let s = with_room(out, old);
+fn stop_at(rt: HostRuntime, out: &mut [u8], old: State) -> State {
+    let s = with_room(rt, out, old);
     let at = door_feed::within(s.pending, out);
     let most = out.len();
     let n = door_answers::write_unreadable(&mut out[at..], door_feed::LINES_MOST + 1);
@@ -208,6 +213,7 @@ fn with_feed(old: State, feed: Feed) -> State {
 }
 
 fn take_byte(
+    rt: HostRuntime,
     frames: &mut [u64],
     domains: &mut [u64],
     stock: &mut [u64],
@@ -224,14 +230,17 @@ fn take_byte(
             with_feed(s, next)
         }
         Turn::Ends(next) => {
-            let t = run_line(frames, domains, stock, entries, line, out, next.lines, s);
+            let t = run_line(
+                rt, frames, domains, stock, entries, line, out, next.lines, s,
+            );
             with_feed(t, next)
         }
-        Turn::Stop => stop_at(out, s),
+        Turn::Stop => stop_at(rt, out, s),
     }
 }
 
 fn take_part(
+    rt: HostRuntime,
     frames: &mut [u64],
     domains: &mut [u64],
     stock: &mut [u64],
@@ -247,7 +256,7 @@ fn take_part(
         if s.stopped {
             return s;
         }
-        s = take_byte(frames, domains, stock, entries, line, out, part[i], s);
+        s = take_byte(rt, frames, domains, stock, entries, line, out, part[i], s);
         i += 1;
     }
     s
@@ -255,6 +264,7 @@ fn take_part(
 
 // One part of the input, or its end. If it can't be read, what was answered is still written.
 fn read_part(
+    rt: HostRuntime,
     frames: &mut [u64],
     domains: &mut [u64],
     stock: &mut [u64],
@@ -264,21 +274,30 @@ fn read_part(
     out: &mut [u8],
     s: State,
 ) -> State {
-    let got = libc::read(STDIN, input);
-    if got < 0 {
-        let told = flush(out, s);
-        io::write_all(STDERR, b"replay: standard input can't be read\n");
-        return give_up(told);
+    match rt.stdin().read(input) {
+        Err(_) => {
+            let told = flush(rt, out, s);
+            tell(rt, b"replay: standard input can't be read\n");
+            give_up(told)
+        }
+        Ok(0) => stop(s),
+        Ok(n) => take_part(
+            rt,
+            frames,
+            domains,
+            stock,
+            entries,
+            line,
+            out,
+            &input[..n],
+            s,
+        ),
     }
-    if got == 0 {
-        return stop(s);
-    }
-    let n = io::count(got, input);
-    take_part(frames, domains, stock, entries, line, out, &input[..n], s)
 }
 
 // The whole input, a part at a time. No input is longer than the turns counted.
 fn read_all(
+    rt: HostRuntime,
     frames: &mut [u64],
     domains: &mut [u64],
     stock: &mut [u64],
@@ -295,13 +314,14 @@ fn read_all(
             return s;
         }
         turns -= 1;
-        s = read_part(frames, domains, stock, entries, input, line, out, s);
+        s = read_part(rt, frames, domains, stock, entries, input, line, out, s);
     }
     s
 }
 
 // A last line may lack its LF. Where the run was given up, nobody knows how the line goes on: it isn't run.
 fn end_line(
+    rt: HostRuntime,
     frames: &mut [u64],
     domains: &mut [u64],
     stock: &mut [u64],
@@ -321,6 +341,7 @@ fn end_line(
         return s;
     }
     run_line(
+        rt,
         frames,
         domains,
         stock,
