@@ -1,5 +1,6 @@
 // Everything that a host asks, on the lent tables and with the gauge by value: a call, the marks, a reset, or nothing that has a name.
 #![tactic(auto)]
+
 ghost use Rattle.std.specs.Prelude.{◌≡◌};
 ghost use Rattle.book_ledger.specs.Tables.{lent};
 ghost use Rattle.call_host.specs.Calls.{outcome};

@@ -1,5 +1,6 @@
 // The one entry for everything that a host asks: on the lent tables, with the gauge lent too and changed in place.
 #![tactic(auto)]
+
 ghost use Rattle.std.specs.Prelude.{◌≡◌};
 ghost use Rattle.book_ledger.specs.Tables.{lent};
 ghost use Rattle.call_host.specs.Calls.{outcome};

@@ -1,6 +1,7 @@
 // A replay, without its input and output: what a whole line of a script answers. Everything is by value or on lent slices, so that the
 // program above reads, writes and decides nothing.
 #![tactic(auto)]
+
 ghost use Rattle.std.specs.Prelude.{◌≡◌};
 ghost use Rattle.book_ledger.specs.Tables.{lent};
 ghost use Rattle.door_answers.specs.Answers.{pen, wrote};
