@@ -1,5 +1,6 @@
 // Decimal numbers: no sign, no leading zero but 0 itself, at most 2^64 - 1.
 #![tactic(auto)]
+
 ghost use Rattle.std.specs.Prelude.{◌≡◌, ◌-◌, ◌≤◌};
 ghost use Rattle.base_numbers.specs.Number.{nought, is_digit, number_from, number_read};
 

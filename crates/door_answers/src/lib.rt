@@ -1,5 +1,6 @@
 // Answers, written as lines into a lent buffer, as much as it has room for. Each function gives the place behind what it wrote.
 #![tactic(auto)]
+
 ghost use Rattle.std.specs.Prelude.{◌≡◌, ◌++◌};
 ghost use Rattle.base_numbers.specs.Number.{decimal};
 ghost use Rattle.door_answers.specs.Answers.{pen, wrote_byte, wrote, pairs, level_state, type_owner, level_state_hpa};

@@ -1,5 +1,6 @@
 // A script byte by byte: which line a byte belongs to, how many of a line are held, and how far a lent buffer goes.
 #![tactic(auto)]
+
 ghost use Rattle.std.specs.Prelude.{◌≡◌, ◌+◌, ◌≤◌, length, take};
 ghost use Rattle.door_feed.specs.Bytes.{turn_of, held_after, least};
 

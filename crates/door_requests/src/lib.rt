@@ -1,5 +1,6 @@
 // A host's ask as a caller in C makes it: a number for the call, and a place for each operand that some call has.
 #![tactic(auto)]
+
 ghost use Rattle.std.specs.Prelude.{◌≡◌};
 ghost use Rattle.door_requests.specs.Requests.{ask_for};
 

@@ -31,7 +31,7 @@ unfolding run rule_of settled
 run_reached t s n ok [] = s
 run_reached t s n ok (c ∷ cs) =
     let once : Somehow (call_of base t gauge c).tables = (_, reach.called s.1 gauge c) in
-    run_reached _ (rw (past_13 t gauge c n ok refl refl) at once) (rule_length base t ok gauge c ∙ n) (rule_keeps base t ok gauge c) cs
+    run_reached (rule_of base t gauge c).tables (rw (past_13 t gauge c n ok refl refl) at once) (rule_length base t ok gauge c ∙ n) (rule_keeps base t ok gauge c) cs
 
 pub witness : Witness (run fresh_tables beside)
 unfolding run call_open

@@ -1,6 +1,6 @@
 -- Document 01, "Cases on the edge": those marked *, in one table. A case is a run of calls from a fresh start of the program's sizes, one call
 -- more, and what the paper says that it answers, whatever the fill and the lamp.
-use Rattle.base_rules.specs.Basics.{ℕ, ◌≡◌, List, [], ◌∷◌, ◌++◌, replicate}
+use Rattle.std.specs.Prelude.{ℕ, ◌≡◌, List, [], ◌∷◌, ◌++◌, replicate}
 use Rattle.base_units.specs.declared.address.{Hpa.Hpa, Gpa.Gpa}
 use Rattle.book_gauge.specs.{Fill.ratio, declared.Gauge.Gauge}
 use Rattle.book_ledger.specs.Tables.{Tables, lent}

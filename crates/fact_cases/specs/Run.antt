@@ -1,6 +1,6 @@
 -- Document 01, "The script, and one whole run": its nine lines, byte for byte, what each is read as, and what each answers where every line before
 -- it has been run.
-use Rattle.base_rules.specs.Basics.{ℕ, ◌+◌, ◌≡◌, List, [], ◌∷◌, ◌++◌}
+use Rattle.std.specs.Prelude.{ℕ, ◌+◌, ◌≡◌, List, [], ◌∷◌, ◌++◌}
 use Prim.Native.String.{String}
 use Rattle.book_gauge.specs.{Fill.ratio, declared.Gauge.Gauge}
 use Rattle.base_calls.specs.declared.Call.{Call}

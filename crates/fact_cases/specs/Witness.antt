@@ -1,6 +1,6 @@
 -- A state that calls reach, so that no premise of the third demand is empty: a domain in teardown with a frame left, beside one that holds its key, and one
 -- that is blocked and written back and holds it too.
-use Rattle.base_rules.specs.Basics.{◌≡◌, List, [], ◌∷◌}
+use Rattle.std.specs.Prelude.{◌≡◌, List, [], ◌∷◌}
 use Rattle.book_ledger.specs.{Codes.TDR, Codes.TEARDOWN, Codes.WRITTEN_BACK, Tables.Tables}
 use Rattle.base_calls.specs.declared.Call.{Call}
 use Rattle.fact_keeps.specs.Views.{kind, number, life, view}

@@ -5,7 +5,7 @@ use Rattle.base_units.specs.Limits.{between, control_pages, key_least, key_most,
 use Rattle.book_ledger.specs.{Codes.WRITTEN_BACK, Codes.RUNNABLE, Codes.NDA, Tables.Tables, Words.DomainFits}
 use Rattle.book_range.specs.Range.{domain_ok}
 use Rattle.book_ledger.specs.declared.words.{Frame.Frame, Domain.Domain}
-use Rattle.fact_keeps.specs.Views.{kind, life, listed, children, frame, view}
+use Rattle.fact_keeps.specs.Views.{kind, frame, view}
 use Rattle.fact_keeps.proofs.Ranged.{Sized, passed}
 use Rattle.book_ledger.proofs.Outside.{frame_out}
 

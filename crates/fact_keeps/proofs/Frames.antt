@@ -8,7 +8,7 @@ use Rattle.book_walk.specs.Walk.{entry_type}
 use Rattle.book_range.specs.{Range.frame_limits, declared.FrameLimits.FrameLimits}
 use Rattle.book_ledger.specs.Words.{FrameFits, EntryFits}
 use Rattle.call_plan.specs.Edits.{freed, new_tdr, new_tdcx, new_ept, new_reg, with_frame_epoch}
-use Rattle.fact_keeps.specs.Views.{kind, frame}
+use Rattle.fact_keeps.specs.Views.{frame}
 use Rattle.fact_keeps.proofs.Ranged.{passed, frame_good, entry_good, sizes_in, Sized}
 
 module _ (z : Sizes) where

@@ -17,15 +17,18 @@ use Rattle.fact_keeps.proofs.{Plans.plan_keeps, Used.used_after_fact}
 module _ (base : Hpa) (t : Tables) (ok : lent_ok base t ≡ true) where
   plan_kept : {p : Plan} → Keep base t p → lent_ok base (carried t p).tables ≡ true
   unfolding carried
-  plan_kept k = elim k [ says ↦ ok | does {e} k ↦ of_lent base (applied e t) k.lent | sweeps {w} k ↦ of_lent base (swept_tables w t) k.lent ]
+  plan_kept k = elim k as (λ p _. lent_ok base (carried t p).tables ≡ true)
+      [ says ↦ ok | does {e} k ↦ of_lent base (applied e t) k.lent | sweeps {w} k ↦ of_lent base (swept_tables w t) k.lent ]
 
   plan_used : {p : Plan} → Keep base t p → used_frames (carried t p).tables.frames ≡ used_by p t (used_frames t.frames)
   unfolding carried used_by applied swept_tables
-  plan_used k = elim k [ says ↦ refl | does k ↦ used_after_fact k.within.sized k.within.frames | sweeps _ ↦ refl ]
+  plan_used k = elim k as (λ p _. used_frames (carried t p).tables.frames ≡ used_by p t (used_frames t.frames))
+      [ says ↦ refl | does k ↦ used_after_fact k.within.sized k.within.frames | sweeps _ ↦ refl ]
 
   plan_length : {p : Plan} → Keep base t p → length (carried t p).tables.frames ≡ length t.frames
   unfolding carried swept_tables
-  plan_length k = elim k [ says ↦ refl | does {e} k ↦ (same_lengths e t).frames | sweeps _ ↦ refl ]
+  plan_length k = elim k as (λ p _. length (carried t p).tables.frames ≡ length t.frames)
+      [ says ↦ refl | does {e} k ↦ (same_lengths e t).frames | sweeps _ ↦ refl ]
 
   kept : (c : Call) → Keep base t (plan_of base t c)
   kept c = plan_keeps base t (lent_of base t ok) c

@@ -34,7 +34,7 @@ use_spare ws n b on h l e =
 -- a bit that is set where one was cleared was set
 pub still_set : (c u : Bool) → choose c false u ≡ true → u ≡ true
 unfolding choose
-still_set c u = elim c [ true ↦ λ e. absurd (false≢true e) | false ↦ λ e. e ]
+still_set c u = elim c as (λ b. choose b false u ≡ true → u ≡ true) [ true ↦ λ e. absurd (false≢true e) | false ↦ λ e. e ]
 
 module _ (t : Tables) (z : Sized t) where
   spare_after : {se : StockEdit} → StockIn t se → (n : ℕ) → n ≡ length t.entries / table_entries
@@ -66,7 +66,9 @@ module _ (t : Tables) (z : Sized t) where
     module _ (was : (view t).used b ≡ true → Good ((view t).entry b i)) where
       taken_right : (c : Bool) → choose c true ((view t).used b) ≡ true → Good (choose c (entry_from 0) ((view t).entry b i))
       unfolding choose
-      taken_right c = elim c [ true ↦ λ _. refl | false ↦ was ]
+      taken_right c = elim c
+          as (λ x. choose x true ((view t).used b) ≡ true → Good (choose x (entry_from 0) ((view t).entry b i)))
+          [ true ↦ λ _. refl | false ↦ was ]
 
       wiped_right : {se : StockEdit} → StockIn t se → new_use se (view t).used b ≡ true → Good (wiped_entry se (view t).entry b i)
       unfolding new_use wiped_entry

@@ -7,7 +7,7 @@ use Rattle.book_range.specs.Range.{frame_limits}
 use Rattle.book_walk.specs.Walk.{entry_type, own_frame, walk_from}
 use Rattle.base_calls.specs.declared.Answer.{Answer}
 use Rattle.call_plan.specs.{Lookup.domain_for, Entries.entry_for, declared.lookup.Subject.Subject}
-use Rattle.fact_keeps.specs.Views.{kind, number, frame, view}
+use Rattle.fact_keeps.specs.Views.{kind, number, view}
 use Rattle.fact_keeps.proofs.Ranged.{IsBlock, between_true, sizes_in, bit_is, root_is, Lent, passed}
 use Rattle.fact_keeps.proofs.Facts.{DomainGood, domain_good, in_window_fact}
 use Rattle.fact_keeps.proofs.Says.{LookupSays, is, not, ReachSays, reached, missed, WalkSays, at, stopped, foreign, on_walk_fact}

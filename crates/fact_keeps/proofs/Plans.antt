@@ -18,7 +18,7 @@ use Rattle.call_plan.specs.declared.{lookup.Subject.Subject, edit.FrameEdit.Fram
 use Rattle.call_plan.specs.declared.{edit.StockEdit.StockEdit, edit.EntryEdit.EntryEdit, edit.Edit.Edit, edit.Plan.Plan, edit.Plan.TheVariants.Say}
 use Rattle.call_plan.specs.declared.{edit.Sweep.Sweep, edit.Plan.TheVariants.Do, edit.Plan.TheVariants.Each, lookup.Operand.Operand, entry.Reach.Reach}
 use Rattle.call_host.specs.Calls.{plan_of}
-use Rattle.fact_keeps.specs.Views.{number, frame, view}
+use Rattle.fact_keeps.specs.Views.{number, view}
 use Rattle.fact_keeps.proofs.Stores.{FrameIn, frame_kept, frame_set, EntryIn, entry_kept, entry_set}
 use Rattle.fact_keeps.proofs.Ranged.{IsBlock, between_true, sizes_in, Sized, sized, root_is, Lent}
 use Rattle.fact_keeps.proofs.{Facts.DomainGood, Kept.Kept, Edits.keep_taken, Sweeps.KeptSweep, Sweeps.keep_sweep}

@@ -40,7 +40,8 @@ both_is t r = (λ e. (both_left t r e, both_right t r e), λ w. both_of t r w.0 
 
 pub if_is : (u r : Bool) → (choose u r true ≡ true) ↔ (u ≡ true → r ≡ true)
 unfolding choose
-if_is u r = elim u [ true ↦ ((λ e _. e), λ f. f refl) | false ↦ ((λ _ h. absurd (false≢true h)), λ _. refl) ]
+if_is u r = elim u as (λ b. (choose b r true ≡ true) ↔ (b ≡ true → r ≡ true))
+    [ true ↦ ((λ e _. e), λ f. f refl) | false ↦ ((λ _ h. absurd (false≢true h)), λ _. refl) ]
 
 pub all_is : (p : ℕ → Bool) (n : ℕ) → (all_from p 0 n ≡ true) ↔ ((j : ℕ) → j < n → p j ≡ true)
 all_is p n = (all_at p n, of_all p n)

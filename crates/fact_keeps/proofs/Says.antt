@@ -46,27 +46,27 @@ module _ {A : Type 0} (P : A → Type 0) where
   pub on_operand_fact : {Q : Pfn → Type 0} {q : Operand} → OperandSays Q q → (z : ℕ → A) (k : Pfn → A)
       → ((j : ℕ) → P (z j)) → ((n : Pfn) → Q n → P (k n)) → P (on_operand q z k)
   unfolding on_operand
-  on_operand_fact o z k f g = elim o [ fits {n} h ↦ g n h | bad {k = j} ↦ f j ]
+  on_operand_fact o z k f g = elim o as (λ x _. P (on_operand x z k)) [ fits {n} h ↦ g n h | bad {k = j} ↦ f j ]
 
   pub on_lookup_fact : {Q : Subject → Type 0} {R : Answer → Type 0} {q : Lookup} → LookupSays Q R q → (z : Answer → A) (k : Subject → A)
       → ((a : Answer) → R a → P (z a)) → ((x : Subject) → Q x → P (k x)) → P (on_lookup q z k)
   unfolding on_lookup
-  on_lookup_fact l z k f g = elim l [ is {x} h ↦ g x h | not {a} h ↦ f a h ]
+  on_lookup_fact l z k f g = elim l as (λ x _. P (on_lookup x z k)) [ is {x} h ↦ g x h | not {a} h ↦ f a h ]
 
   pub on_parties_fact : {Q : Subject → Pfn → Type 0} {R : Answer → Type 0} {q : Parties} → PartiesSays Q R q → (z : Answer → A) (k : Subject → Pfn → A)
       → ((a : Answer) → R a → P (z a)) → ((x : Subject) (m : Pfn) → Q x m → P (k x m)) → P (on_parties q z k)
   unfolding on_parties
-  on_parties_fact p z k f g = elim p [ are {x} {m} h ↦ g x m h | none {a} h ↦ f a h ]
+  on_parties_fact p z k f g = elim p as (λ x _. P (on_parties x z k)) [ are {x} {m} h ↦ g x m h | none {a} h ↦ f a h ]
 
   pub on_reach_fact : {Q : ℕ → ℕ → Entry → Type 0} {R : Answer → Type 0} {q : Reach} → ReachSays Q R q → (z : Answer → A) (k : ℕ → ℕ → Entry → A)
       → ((a : Answer) → R a → P (z a)) → ((b i : ℕ) (e : Entry) → Q b i e → P (k b i e)) → P (on_reach q z k)
   unfolding on_reach
-  on_reach_fact r z k f g = elim r [ reached {b} {i} {e} h ↦ g b i e h | missed {a} h ↦ f a h ]
+  on_reach_fact r z k f g = elim r as (λ x _. P (on_reach x z k)) [ reached {b} {i} {e} h ↦ g b i e h | missed {a} h ↦ f a h ]
 
   pub on_walk_fact : {Q : ℕ → ℕ → Type 0} {F : Type 0} {q : Walk} → WalkSays Q F q → (s : ℕ → ℕ → A) (z : A) (k : ℕ → ℕ → A)
       → ((l j : ℕ) → P (s l j)) → (F → P z) → ((b i : ℕ) → Q b i → P (k b i)) → P (on_walk q s z k)
   unfolding on_walk
-  on_walk_fact w s z k f y g = elim w [ at {b} {i} h ↦ g b i h | stopped {l} {j} ↦ f l j | foreign h ↦ y h ]
+  on_walk_fact w s z k f y g = elim w as (λ x _. P (on_walk x s z k)) [ at {b} {i} h ↦ g b i h | stopped {l} {j} ↦ f l j | foreign h ↦ y h ]
 
 -- ---- an hpa's frame is one of the window's
 

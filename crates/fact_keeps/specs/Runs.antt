@@ -1,5 +1,6 @@
 -- A run of calls that checks its tables and marks once, and carries the count of used frames along by value.
-use Rattle.base_rules.specs.Basics.{ℕ, ◌+◌, ◌-◌, List, [], ◌∷◌, length, eqb, choose, need, given}
+use Rattle.std.specs.Prelude.{ℕ, ◌+◌, ◌-◌, List, [], ◌∷◌, length, eqb}
+use Rattle.base_rules.specs.Basics.{choose, need, given}
 use Rattle.base_units.specs.declared.address.Hpa.{Hpa}
 use Rattle.book_gauge.specs.{Marks.marks_ok, Update.after, declared.Gauge.Gauge}
 use Rattle.book_ledger.specs.{Codes.NDA, Count.one_used, Count.used_frames, Tables.Tables, declared.words.Frame.Frame}

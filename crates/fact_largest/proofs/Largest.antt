@@ -1,11 +1,11 @@
 -- Request 6's cases are answered as it says, request 5's sweep reaches the last record, and the lent words have room.
-use Rattle.base_rules.specs.Basics.{choose, given}
+use Rattle.base_rules.specs.Basics.{choose}
 use Rattle.base_rules.proofs.Facts.{refl, arith, lit≤, lit<}
 use lib.{Count.ones, Ieee.div, Ieee.of_int, Ieee.le, Ieee.lt}
 use Rattle.base_units.specs.Limits.{between, frames_ok, base_ok}
 use Rattle.book_gauge.specs.Update.{lamp_after}
 use Rattle.book_gauge.proofs.Laws.{of_marks}
-use Rattle.book_ledger.specs.{Sizes.tables_of, Sizes.sizes_of, Sizes.lengths_ok, Sizes.sizes_ok}
+use Rattle.book_ledger.specs.{Sizes.lengths_ok, Sizes.sizes_ok}
 use Rattle.book_ledger.proofs.Packing.{frame_back, domain_back, entry_back}
 use Rattle.book_range.specs.Range.{frame_limits, frame_ok, entry_ok, page_ok, pages_ok, domain_ok, record_ok}
 use Rattle.fact_keeps.proofs.{Ranged.of_lent, Fresh.zeros_lent}

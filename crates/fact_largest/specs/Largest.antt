@@ -1,5 +1,5 @@
 -- Request 6: "Our new machine wants 16384 frames, 64 records, 256 tables and keys 32 to 95." The last of each, and what comes behind it.
-use Rattle.base_rules.specs.Basics.{ℕ, zero, suc, ◌+◌, ◌-◌, ◌*◌, ◌^◌, ◌≡◌, ◌<◌, ◌≤◌, Bool, true, false, List, [], ◌∷◌, ◌++◌, replicate}
+use Rattle.std.specs.Prelude.{ℕ, zero, suc, ◌+◌, ◌-◌, ◌*◌, ◌^◌, ◌≡◌, ◌<◌, ◌≤◌, true, List, [], ◌∷◌, ◌++◌, replicate}
 use Rattle.base_units.specs.Limits.{frames_most, records_most, tables_most, key_most, control_pages, epoch_most}
 use Rattle.base_units.specs.declared.address.Hpa.{Hpa}
 use Rattle.book_ledger.specs.Codes.{REG, WRITTEN_BACK, RUNNABLE, PENDING_BLOCKED}

@@ -4,7 +4,7 @@ use Rattle.base_rules.proofs.Facts.{refl, sym, ap, ap₂, ◌∙◌, subst, one-
 use Rattle.book_ledger.specs.Codes.{NDA, TDR, TDCX, EPT, REG, TEARDOWN}
 use Rattle.fact_keeps.specs.Views.{View, kind, owner, number, life, listed, children}
 use Rattle.fact_ownership.specs.Owned.{Found, found, Shape, Tree, nothing, table, page, branch, walk, weight, times, same, without, each, one, Extent}
-use Rattle.fact_ownership.specs.Owned.{root_block, tree, controls, tree_of, finds, mine, Keyed, Block, root, below, Belongs, shape, points}
+use Rattle.fact_ownership.specs.Owned.{root_block, tree, controls, tree_of, finds, mine, Keyed, Block, Belongs, shape, points}
 use Rattle.fact_ownership.specs.{Reached.Lists, Reached.noted, Always.Numbered, Always.a_record}
 use Rattle.fact_ownership.proofs.Sums.{size, same_refl, weight_append, weight_cong, each_cong}
 use Rattle.fact_ownership.proofs.Walk.{reads, deeper, Edit, change, table_le, times_self, Alike, same_walk, walk_empty, reads_empty, blank}

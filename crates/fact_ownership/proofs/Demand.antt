@@ -4,7 +4,7 @@ use Rattle.base_rules.proofs.Facts.{refl, sym, ap, ◌∙◌, subst, true≢fals
 use lib.Ieee.{Float}
 use Rattle.base_units.specs.declared.address.{Hpa.Hpa, Place.Place}
 use Rattle.book_gauge.specs.{Marks.marks_ok, declared.Gauge.Gauge}
-use Rattle.book_ledger.specs.{Codes.NDA, Codes.TDR, Codes.BLOCKED_LIFE, Codes.WRITTEN_BACK, Tables.Tables, Tables.lent, declared.words.Frame.Frame}
+use Rattle.book_ledger.specs.{Codes.NDA, Codes.TDR, Codes.BLOCKED_LIFE, Codes.WRITTEN_BACK, Tables.Tables, declared.words.Frame.Frame}
 use Rattle.book_ledger.specs.declared.words.Domain.{Domain}
 use Rattle.base_calls.specs.{Answers.values_of, Answers.number_of, declared.Answer.Answer, declared.Call.Call}
 use Rattle.call_plan.specs.{Edits.with_life, declared.edit.Plan.Plan}

@@ -14,13 +14,13 @@ use Rattle.book_ledger.specs.{Codes.FREE, Codes.NL_MAPPED, Codes.MAPPED, Codes.P
 use Rattle.book_ledger.specs.declared.words.{Frame.Frame, Entry.Entry}
 use Rattle.book_walk.specs.Walk.{entry_type}
 use Rattle.base_calls.specs.{Answers.number_of, declared.Answer.Answer, declared.Call.Call}
-use Rattle.call_plan.specs.Edits.{entry, new_ept, new_reg, with_frame_epoch}
+use Rattle.call_plan.specs.Edits.{new_ept, new_reg, with_frame_epoch}
 use Rattle.call_plan.specs.Lookup.{on_place, on_lookup, on_parties, frame_operand, spot_for}
 use Rattle.call_plan.specs.Entries.{blocked_state, unblocked_state, table_empty, free_at, on_reach}
 use Rattle.call_plan.specs.Changes.{refuse, gain, lose, on_frame, on_domain, on_built, on_live}
 use Rattle.call_carry.specs.Carry.{applied}
 use Rattle.call_host.specs.Calls.{plan_of}
-use Rattle.fact_keeps.specs.Views.{kind, key, op, owner, number, life, children, frame, view, place_in}
+use Rattle.fact_keeps.specs.Views.{kind, key, owner, number, frame, view, place_in}
 use Rattle.fact_ownership.specs.Owned.{Found, page, shape_of, points, finds, without, Keyed, Belongs}
 use Rattle.fact_ownership.specs.{Reached.extent, Reached.Lists, Reached.role_of, Reached.subject, Reached.left, Always.a_record, Always.a_table}
 use Rattle.fact_keeps.proofs.{Stores.After, Ranged.between_true, Ranged.sizes_in, Ranged.sized, Ranged.root_is, Lookups.record_low}

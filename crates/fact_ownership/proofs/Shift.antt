@@ -4,7 +4,7 @@ use Rattle.base_rules.specs.Basics.{◌≡◌, true, List, ℕ, ◌+◌, ◌<◌
 use Rattle.base_rules.proofs.Facts.{refl, sym, ◌∙◌, subst, arith, by_eq}
 use Rattle.book_ledger.specs.{Codes.NDA, Codes.TDR, Codes.EPT, Codes.TEARDOWN}
 use Rattle.fact_keeps.specs.Views.{View, kind, owner, number, life}
-use Rattle.fact_ownership.specs.Owned.{Found, weight, times, same, one, Extent, finds, mine, Owns, Block, root, below, Belongs, Untouched}
+use Rattle.fact_ownership.specs.Owned.{Found, weight, times, same, one, Extent, mine, Owns, Block, root, below, Belongs, Untouched}
 use Rattle.fact_ownership.specs.{Reached.Lists, Always.Numbered, Always.a_record, Always.a_table, Always.block_of}
 use Rattle.fact_ownership.proofs.Sums.{size, size_length}
 use Rattle.fact_ownership.proofs.Domain.{SameFrame, SameEntry, SameRecord, leaves_all, same_owns}

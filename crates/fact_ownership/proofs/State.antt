@@ -7,7 +7,7 @@ use Rattle.book_ledger.specs.{Codes.NDA, Codes.TDR, Codes.EPT, Codes.FREE, Codes
 use Rattle.book_ledger.specs.declared.words.{Domain.Domain, Entry.Entry}
 use Rattle.book_walk.specs.Walk.{entry_type, own_frame, walk_from}
 use Rattle.call_plan.specs.{Lookup.domain_for, Entries.entry_for, declared.lookup.Subject.Subject, declared.lookup.Lookup.Lookup}
-use Rattle.fact_keeps.specs.Views.{kind, number, children, frame, view}
+use Rattle.fact_keeps.specs.Views.{kind, number, frame, view}
 use Rattle.fact_ownership.specs.Owned.{points, found, tree, Keyed, Belongs, root_block}
 use Rattle.fact_ownership.specs.{Reached.extent, Reached.Lists, Always.a_record, Always.a_table}
 use Rattle.fact_ownership.proofs.{Walk.Path·to, Walk.here, Walk.down, Domain.Mine, Domain.owns_size, Tidy.Tidy}

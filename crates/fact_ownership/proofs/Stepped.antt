@@ -7,7 +7,7 @@ use Rattle.book_ledger.specs.Codes.{NDA, TDR, EPT, TEARDOWN}
 use Rattle.book_ledger.specs.declared.words.{Frame.Frame, Domain.Domain, Entry.Entry}
 use Rattle.call_plan.proofs.Parts.{edit}
 use Rattle.call_plan.specs.declared.edit.{FrameEdit.FrameEdit, PageEdit.PageEdit, DomainEdit.DomainEdit, StockEdit.StockEdit, EntryEdit.EntryEdit, Edit.Edit}
-use Rattle.fact_keeps.specs.Views.{View, kind, number, life, listed, frame}
+use Rattle.fact_keeps.specs.Views.{View, kind, number, listed, frame}
 use Rattle.fact_keeps.proofs.Stores.{stored, stored_at, stored_same, stored_other, cell_other, new_frame, new_domain, new_page, new_entry, new_use, wiped_domain}
 use Rattle.fact_keeps.proofs.Stores.{wiped_page, wiped_entry, After}
 use Rattle.fact_ownership.specs.{Owned.Extent, Owned.Keyed, Owned.Block, Reached.Lists}

@@ -12,7 +12,7 @@ use Rattle.call_domains.specs.Domains.{fresh_domain}
 use Rattle.call_plan.specs.declared.edit.{FrameEdit.FrameEdit, PageEdit.PageEdit, DomainEdit.DomainEdit, StockEdit.StockEdit, EntryEdit.EntryEdit, Edit.Edit}
 use Rattle.call_plan.specs.declared.edit.{Plan.Plan, Plan.TheVariants.Say, Plan.TheVariants.Do}
 use Rattle.call_carry.specs.Carry.{applied}
-use Rattle.fact_keeps.specs.Views.{View, kind, owner, number, key, op, life, listed, children, frame, view}
+use Rattle.fact_keeps.specs.Views.{View, kind, owner, number, listed, children, frame, view}
 use Rattle.fact_keeps.proofs.Stores.{cell_at, cell_other, new_page, new_entry, wiped_page, wiped_entry, After}
 use Rattle.fact_ownership.specs.Owned.{Found, shape_of, shape, points, finds, without, Keyed, Block, root, Belongs, root_block}
 use Rattle.fact_ownership.specs.{Reached.extent, Reached.Lists, Always.a_record}

@@ -2,9 +2,9 @@
 -- such a domain has its key and all its frames still.
 use Rattle.base_rules.specs.Basics.{◌≡◌, List, ℕ, eqb, choose}
 use Rattle.base_rules.proofs.Facts.{refl, sym, ap, ◌∙◌, subst, arith, choose_both}
-use Rattle.book_ledger.specs.{Codes.TDR, Codes.BLOCKED_LIFE, Codes.TEARDOWN, Codes.WRITTEN_BACK, declared.words.Domain.Domain}
+use Rattle.book_ledger.specs.{Codes.TDR, Codes.BLOCKED_LIFE, Codes.TEARDOWN, declared.words.Domain.Domain}
 use Rattle.book_ledger.specs.declared.words.Entry.{Entry}
-use Rattle.fact_keeps.specs.Views.{View, kind, number, key, life}
+use Rattle.fact_keeps.specs.Views.{View, kind, number, key}
 use Rattle.fact_ownership.specs.Owned.{Found, Extent, Owns, Keyed, written_back, WrittenBack}
 use Rattle.fact_ownership.specs.{Reached.Lists, Always.Holds, Always.holds}
 use Rattle.fact_ownership.proofs.{Domain.SameFrame, Domain.same_frame, Domain.Leaves, Domain.was_keyed, Domain.same_owns, Sound.held, Sound.Sound, Sound.held_besides}

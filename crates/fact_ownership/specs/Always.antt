@@ -1,5 +1,5 @@
 -- What every reached state has beside the third demand: keys, records and tables, owners, and the root of a domain that isn't initialized.
-use Rattle.base_rules.specs.Basics.{ℕ, ◌+◌, ◌<◌, ◌≡◌, true}
+use Rattle.std.specs.Prelude.{ℕ, ◌+◌, ◌<◌, ◌≡◌, true}
 use Rattle.book_ledger.specs.Codes.{TDR, EPT, UNINITIALIZED, FREE}
 use Rattle.fact_keeps.specs.Views.{View, kind, owner, number, key, op}
 use Rattle.fact_ownership.specs.Owned.{Extent, Keyed, root_block}

@@ -1,5 +1,6 @@
 -- What demand 3 speaks of: a new walk of a domain's tree, the frames recorded as its own, and what is a domain's to keep.
-use Rattle.base_rules.specs.Basics.{ℕ, zero, suc, ◌+◌, ◌<◌, ◌≡◌, Bool, true, false, List, [], ◌∷◌, ◌++◌, eqb, ltb, length, choose}
+use Rattle.std.specs.Prelude.{ℕ, zero, suc, ◌+◌, ◌<◌, ◌≡◌, Bool, true, false, List, [], ◌∷◌, ◌++◌, eqb, ltb, length}
+use Rattle.base_rules.specs.Basics.{choose}
 use Rattle.book_ledger.specs.Codes.{TDR, TDCX, EPT, REG, BLOCKED_LIFE, TEARDOWN, WRITTEN_BACK, FREE, NL_MAPPED, NL_BLOCKED}
 use Rattle.book_ledger.specs.declared.words.Domain.{Domain}
 use Rattle.fact_keeps.specs.Views.{View, kind, owner, number, life, listed, children}

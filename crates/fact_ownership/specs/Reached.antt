@@ -1,6 +1,6 @@
 -- The states that calls reach from a fresh start, and document 01's third demand of them.
-use Rattle.base_rules.specs.Basics.{ℕ, ◌≡◌, true, List, [], eqb, length, choose}
-use Rattle.std.specs.Prelude.{Float}
+use Rattle.base_rules.specs.Basics.{choose}
+use Rattle.std.specs.Prelude.{Float, ℕ, ◌≡◌, true, List, [], eqb, length}
 use Rattle.base_levels.specs.Level.{levels}
 use Rattle.base_units.specs.Limits.{table_entries}
 use Rattle.base_units.specs.declared.address.{Hpa.Hpa, Place.Place, Place.TheVariants.At, Place.TheVariants.Outside}

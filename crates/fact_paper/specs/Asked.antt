@@ -1,6 +1,6 @@
 -- What a check asks, in document 01's words, met in a case: a state that it lets pass, and one that it doesn't, for every call that has the check.
 -- A state that is asked for wrongly in a call's definition, in its code and in its row of checks alike fails here, and so does a check left out.
-use Rattle.base_rules.specs.Basics.{ℕ, zero, suc, ◌+◌, ◌*◌, ◌^◌, List, [], ◌∷◌, ◌++◌}
+use Rattle.std.specs.Prelude.{ℕ, zero, suc, ◌+◌, ◌*◌, ◌^◌, List, [], ◌∷◌, ◌++◌}
 use Rattle.base_units.specs.declared.address.{Hpa.Hpa, Gpa.Gpa}
 use Rattle.base_calls.specs.declared.Call.{Call}
 use Rattle.fact_cases.specs.Cases.{Case, hpa, gpa, no, case, D, line_1, line_6, line_7, blocked, tracked, blocked_runnable}

@@ -1,7 +1,7 @@
 -- Answers 12 and 14, 8 at a frame's epoch above the domain's, and a cachewb on records that no TDR names or that aren't in use, met in cases too. No case from a
 -- fresh start meets them: 14 never follows from there, nor such an epoch or record, and 12 only after 2^32 - 2 tracks. So the tables of a run are harmed by one word, as lent tables may be, and the call's own rule is asked
 -- (answer 13 comes before it).
-use Rattle.base_rules.specs.Basics.{ℕ, ◌^◌, ◌-◌, ◌≡◌, List, [], ◌∷◌, ◌++◌}
+use Rattle.std.specs.Prelude.{ℕ, ◌^◌, ◌-◌, ◌≡◌, List, [], ◌∷◌, ◌++◌}
 use Rattle.book_gauge.specs.declared.Gauge.{Gauge}
 use Rattle.book_ledger.specs.Codes.{NDA, TDR, TDCX, EPT, REG, CONFIGURED, TEARDOWN, UNINITIALIZED, INITIALIZED, RUNNABLE}
 use Rattle.book_ledger.specs.{Tables.Tables, Tables.lent, Tables.set_frame, Tables.set_domain, declared.words.Domain.Domain}

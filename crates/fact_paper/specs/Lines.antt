@@ -1,6 +1,6 @@
 -- Document 01, "The script": the line of each call that the whole run leaves out, its operands numbered by their place, and what it is read as. Request 5's
 -- is the name alone.
-use Rattle.base_rules.specs.Basics.{◌≡◌, List, [], ◌∷◌}
+use Rattle.std.specs.Prelude.{◌≡◌, List, [], ◌∷◌}
 use Prim.Native.String.{String}
 use Rattle.base_calls.specs.declared.Call.{Call}
 use Rattle.door_script.specs.{Text.bytes, Lines.line_of, declared.line.Line.Line}

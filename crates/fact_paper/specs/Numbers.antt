@@ -1,6 +1,6 @@
 -- Document 01's numbers a second time, each met in a case: its codes of types and states, the ends of its limits, the bits of a gpa. A number that
 -- is wrong in a definition and in its code alike would pass every equation between the two; here it fails.
-use Rattle.base_rules.specs.Basics.{ℕ, ◌+◌, ◌-◌, ◌*◌, ◌^◌, ◌≡◌, Bool, true, false, List, [], ◌∷◌, ◌++◌}
+use Rattle.std.specs.Prelude.{ℕ, ◌+◌, ◌-◌, ◌*◌, ◌^◌, ◌≡◌, Bool, true, false, List, [], ◌∷◌, ◌++◌}
 use Rattle.base_units.specs.Limits.{frames_ok, records_ok, tables_ok, epoch_ok, base_ok}
 use Rattle.base_units.specs.declared.address.{Hpa.Hpa}
 use Rattle.book_gauge.specs.{Fill.ratio, Marks.marks_ok, Update.lamp_after}

@@ -1,6 +1,7 @@
 -- Answer 13's ranges a second time, as words at their ends: "any stored number or code outside its range (a frame's epoch from 0, a child count up to the
 -- frames)", "a place without use holds 0". The sizes are the program's: frames 1024, records 4, tables 12.
-use Rattle.base_rules.specs.Basics.{ℕ, ◌+◌, ◌-◌, ◌*◌, ◌^◌, ◌≡◌, Bool, true, false, not, List, [], ◌∷◌, ◌++◌, replicate, need}
+use Rattle.std.specs.Prelude.{ℕ, ◌+◌, ◌-◌, ◌*◌, ◌^◌, ◌≡◌, Bool, true, false, not, List, [], ◌∷◌, ◌++◌, replicate}
+use Rattle.base_rules.specs.Basics.{need}
 use Rattle.book_stock.specs.Bits.{spare_clear}
 use Rattle.book_ledger.specs.declared.sizes.Sizes.{Sizes}
 use Rattle.book_range.specs.Range.{frame_ok, entry_ok, record_ok, table_ok, rooted_ok}

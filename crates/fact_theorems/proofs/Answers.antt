@@ -9,7 +9,7 @@ use Rattle.base_calls.specs.declared.{Answer.Answer, Ask.Ask, Answer.TheVariants
 use Rattle.call_plan.specs.declared.edit.Plan.{Plan, TheVariants.Say, TheVariants.Do, TheVariants.Each}
 use Rattle.call_carry.specs.Carry.{carried}
 use Rattle.book_ledger.specs.Codes.{NDA, TDR, TDCX, NL_MAPPED, MAPPED, PENDING, NL_BLOCKED, BLOCKED, PENDING_BLOCKED}
-use Rattle.book_ledger.specs.{Tables.Tables, declared.words.Entry.Entry}
+use Rattle.book_ledger.specs.{Tables.Tables}
 use Rattle.call_plan.specs.{Changes.gain, Changes.lose, Entries.blocked_state, Entries.unblocked_state}
 use Rattle.call_domains.specs.Domains.{life_plan, op_plan, track_plan, enlist_at, addcx_plan, new_record, create_at, create_plan}
 use Rattle.call_adds.specs.Adds.{free_for, add_table_at, add_page_at, septadd_plan, page_plan}
@@ -146,6 +146,7 @@ by_call P base t g c f z = choose_both P _ _ _ (λ ok. choose_both P _ _ _ (λ _
 -- So a number is given exactly when a check of that number fails and none before it does ..
 pub fails_given : (n : ℕ) (cs : List Check) → Fails n cs → first_no cs ≡ n
 unfolding first_no choose
+fails_given n [] f = elim f [ ]
 fails_given n (c ∷ cs) (here e) = e
 fails_given n (c ∷ cs) (later f) = fails_given n cs f
 

@@ -12,7 +12,7 @@ use Rattle.door_requests.specs.{Requests.asks, Requests.ask_at, Requests.ask_for
 use Rattle.reefnettle.specs.Door.{ReadOut, handed_out, door_of}
 use Rattle.fact_ownership.specs.Reached.{Lists, Reached, Demand3, fresh, called, marked}
 use Rattle.fact_ownership.proofs.Demand.{demand3}
-use Rattle.fact_theorems.specs.Order.{number, place, tables, in_order, Check, first_no, Fails}
+use Rattle.fact_theorems.specs.Order.{place, in_order, Check, first_no, Fails}
 use Rattle.fact_theorems.specs.Doors.{ask_checks, reads_out, left_after}
 use Rattle.fact_theorems.proofs.{Firsts.numbered, Outcomes.reset_kept, Outcomes.Zeros, Outcomes.by_tells}
 use Rattle.fact_theorems.proofs.Answers.{choose_eq, Kept, settles, ordered, fails_given, passes_given, given_why}

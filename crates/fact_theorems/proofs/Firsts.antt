@@ -11,7 +11,7 @@ use Rattle.base_calls.specs.{Answers.values_of, Answers.number_of, declared.Answ
 use Rattle.call_plan.specs.Lookup.{bit_in, on_place, on_operand, on_lookup, on_parties, frame_operand, no_frame, domain_for, parties_for, built_for, spot_operand, spot_for}
 use Rattle.call_plan.specs.{Entries.walk_of, Entries.entry_for, Entries.on_reach, Entries.is_tracked, Changes.refuse}
 use Rattle.call_plan.specs.declared.{lookup.Operand.Operand, lookup.Operand.TheVariants.Frame, lookup.Operand.TheVariants.Bad, lookup.Subject.Subject}
-use Rattle.call_plan.specs.declared.{lookup.Lookup.Lookup, lookup.Lookup.TheVariants.Not, lookup.Parties.Parties, entry.Reach.Reach, edit.Edit.Edit}
+use Rattle.call_plan.specs.declared.{lookup.Lookup.Lookup, lookup.Parties.Parties, entry.Reach.Reach, edit.Edit.Edit}
 use Rattle.call_plan.specs.declared.{edit.Sweep.Sweep, edit.Plan.Plan, edit.Plan.TheVariants.Say, edit.Plan.TheVariants.Do, edit.Plan.TheVariants.Each}
 use Rattle.call_trees.specs.Trees.{tracked_for}
 use Rattle.fact_keeps.specs.Views.{View, view}

@@ -1,6 +1,7 @@
 -- For each row of "The calls", its "Needs" as a list of checks in the paper's order. A reader ticks them off against the table; the
 -- theorem `answered` (proofs/Answers) says that a call's number is that of the first check that fails.
-use Rattle.base_rules.specs.Basics.{ℕ, Bool, true, false, not, List, [], ◌∷◌, length, eqb, ltb, choose}
+use Rattle.std.specs.Prelude.{ℕ, Bool, true, false, not, List, [], ◌∷◌, length, eqb, ltb}
+use Rattle.base_rules.specs.Basics.{choose}
 use Rattle.base_units.specs.{Limits.between, Limits.control_pages, Limits.epoch_most, Limits.key_ok, Address.frame_of}
 use Rattle.base_levels.specs.Level.{top_level, level_ok, gpa_fits}
 use Rattle.base_units.specs.declared.address.{Hpa.Hpa, Gpa.Gpa, Pfn.Pfn}

@@ -1,6 +1,7 @@
 -- The checks of everything that a host asks, with the gauge lent or from C and Rust; and what such an ask leaves of the domains whose keys are
 -- freed.
-use Rattle.base_rules.specs.Basics.{Bool, false, List, [], ◌∷◌, eqb, length, choose}
+use Rattle.std.specs.Prelude.{Bool, false, List, [], ◌∷◌, eqb, length}
+use Rattle.base_rules.specs.Basics.{choose}
 use Rattle.base_units.specs.declared.address.Hpa.{Hpa}
 use Rattle.book_gauge.specs.{Marks.marks_ok, declared.Gauge.Gauge}
 use Rattle.book_ledger.specs.{Sizes.sizes_ok, Tables.Tables}

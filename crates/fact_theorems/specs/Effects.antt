@@ -1,7 +1,8 @@
 -- The column "Effect" of "The calls", a row a call: what an accepted call answers, and all that stands in the lent tables after it, read number by
 -- number. A row names the places that the call writes and what it writes there; every other place reads as before. It is said apart from the
 -- rules, in the paper's words and codes: `effects` (proofs/Effects) is the theorem that each accepted call does its row and nothing else.
-use Rattle.base_rules.specs.Basics.{ℕ, ◌+◌, ◌-◌, ◌%◌, Bool, true, false, eqb, choose}
+use Rattle.std.specs.Prelude.{ℕ, ◌+◌, ◌-◌, ◌%◌, Bool, true, false, eqb}
+use Rattle.base_rules.specs.Basics.{choose}
 use Rattle.base_units.specs.{Limits.control_pages, Limits.table_entries, Address.hpa_of}
 use Rattle.base_units.specs.declared.address.{Hpa.Hpa, Gpa.Gpa, Pfn.Pfn}
 use Rattle.book_stock.specs.Bits.{lowest_unused}

@@ -1,5 +1,6 @@
 -- Document 01, "When the module says no" and its paragraph "Order": each reason to refuse, its number, and its place in the order.
-use Rattle.base_rules.specs.Basics.{ℕ, Bool, true, false, List, [], ◌∷◌, ◌≡◌, leb, choose}
+use Rattle.std.specs.Prelude.{ℕ, Bool, true, false, List, [], ◌∷◌, ◌≡◌, leb}
+use Rattle.base_rules.specs.Basics.{choose}
 
 pub data Reason : Type 0 where
   -- 13: lent sizes, base or a stored number; a lent gauge's marks

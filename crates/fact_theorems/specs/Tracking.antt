@@ -1,6 +1,6 @@
 -- Document 02, request 2, "Building a domain needs no tracking", said of the answers: while D's op state is initialized, none of the three calls that ask
 -- for a tracked entry answers 8, on tables of any contents.
-use Rattle.base_rules.specs.Basics.{ℕ, ◌≡◌}
+use Rattle.std.specs.Prelude.{ℕ, ◌≡◌}
 use Rattle.base_units.specs.declared.address.{Hpa.Hpa, Gpa.Gpa}
 use Rattle.book_gauge.specs.declared.Gauge.{Gauge}
 use Rattle.book_ledger.specs.{Codes.INITIALIZED, Tables.Tables}

@@ -1,5 +1,5 @@
 use Rattle.base_rules.specs.Basics.{◌+◌, choose}
-use Rattle.base_rules.proofs.Facts.{arith, le-leb, lt-leb, rules}
+use Rattle.base_rules.proofs.Facts.{arith, le-leb, lt-leb}
 use Rattle.door_feed.specs.Bytes.{least}
 use Rattle.door_feed.proofs.advanced.Goals as goal
 

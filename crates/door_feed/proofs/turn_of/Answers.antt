@@ -1,4 +1,4 @@
-use Rattle.base_rules.proofs.Facts.{steps, rules}
+use Rattle.base_rules.proofs.Facts.{steps}
 use Rattle.door_feed.specs.Bytes.{turn_of}
 use Rattle.door_feed.proofs.turn_of.Goals as goal
 

@@ -1,0 +1,11 @@
+use Rattle.call_plan.proofs.Ons.{ons, rules}
+use Rattle.call_plan.specs.Entries.{is_tracked}
+use Rattle.call_trees.proofs.is_tracked.Goals as goal
+
+pub returns-then-d-eq-INITIALIZED : goal.returns-then-d-eq-INITIALIZED
+unfolding is_tracked
+returns-then-d-eq-INITIALIZED c = search ons depth 16
+
+pub returns : goal.returns
+unfolding is_tracked
+returns c = search ons depth 16

@@ -1,0 +1,11 @@
+use Rattle.call_plan.proofs.Ons.{ons, rules}
+use Rattle.call_trees.specs.Trees.{readentry_plan}
+use Rattle.call_trees.proofs.plan_readentry.Goals as goal
+
+pub returns-in-Not : goal.returns-in-Not
+unfolding readentry_plan
+returns-in-Not c = search ons depth 16
+
+pub returns-in-Are : goal.returns-in-Are
+unfolding readentry_plan
+returns-in-Are c = search ons depth 16

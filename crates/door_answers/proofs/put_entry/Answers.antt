@@ -1,0 +1,5 @@
+use Rattle.door_answers.proofs.Writes.{writes}
+use Rattle.door_answers.proofs.put_entry.Goals as goal
+
+pub returns : goal.returns
+returns c = search writes
