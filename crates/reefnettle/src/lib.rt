@@ -1,5 +1,6 @@
 // The door for callers in C and Rust: include/reefnettle.h says what it takes, gives and asks of them. The crate reefnettle_c exports it to C.
 #![tactic(auto)]
+
 ghost use Rattle.std.specs.Prelude.{◌≡◌};
 ghost use Rattle.book_ledger.specs.Tables.{lent};
 ghost use Rattle.reefnettle.specs.Door.{handed_out, door_of, version};
