@@ -16,4 +16,4 @@ returns-in_default c = search ons depth 16
 
 pub returns : goal.returns
 unfolding create_at
-returns c = search ons depth 16
+returns c = search ons depth 16 fits 20000

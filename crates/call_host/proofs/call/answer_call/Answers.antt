@@ -1,0 +1,15 @@
+use Rattle.base_rules.proofs.Facts.{steps, rules}
+use Rattle.call_host.specs.Calls.{call_of}
+use Rattle.call_host.proofs.call.answer_call.Goals as goal
+
+pub returns-then-not-lent_ok : goal.returns-then-not-lent_ok
+unfolding call_of
+returns-then-not-lent_ok c = search steps depth 16
+
+pub returns-then-not-marks_ok : goal.returns-then-not-marks_ok
+unfolding call_of
+returns-then-not-marks_ok c = search steps depth 16
+
+pub returns : goal.returns
+unfolding call_of
+returns c = search steps depth 16

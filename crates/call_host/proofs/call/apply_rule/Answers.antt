@@ -1,0 +1,11 @@
+use Rattle.base_rules.proofs.Facts.{rules}
+use Rattle.call_host.specs.Calls.{rule_of, settled}
+use Rattle.base_rules.proofs.Facts.{steps}
+use Rattle.call_host.proofs.call.apply_rule.Goals as goal
+
+pub returns : goal.returns
+unfolding rule_of settled
+returns c = rw (
+      ← c.plan_of-p.ensures,
+      ← c.carry-answer.ensures,
+      ← c.gauge_after-gauge.ensures)
