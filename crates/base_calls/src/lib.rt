@@ -1,5 +1,6 @@
 // The host calls of documents 01 and 02 by value, and what the module answers to them.
 #![tactic(auto)]
+
 ghost use Rattle.std.specs.Prelude.{◌≡◌};
 ghost use Rattle.base_calls.specs.Answers.{values_of};
 

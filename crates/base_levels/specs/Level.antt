@@ -1,5 +1,6 @@
 -- Document 01, "Level table": a row for each level, low zero bits and the shift to the entry's index.
-use Rattle.base_rules.specs.Basics.{ℕ, ◌-◌, ◌/◌, ◌%◌, ◌^◌, Bool, false, List, [], ◌∷◌, length, get_or, ltb, eqb, need}
+use Rattle.std.specs.Prelude.{ℕ, ◌-◌, ◌/◌, ◌%◌, ◌^◌, Bool, false, List, [], ◌∷◌, length, get_or, ltb, eqb}
+use Rattle.base_rules.specs.Basics.{need}
 use Rattle.base_units.specs.{Limits.between, Limits.gpa_end, Limits.table_entries, declared.address.Gpa.Gpa}
 use Rattle.base_levels.specs.declared.LevelRow.{LevelRow}
 

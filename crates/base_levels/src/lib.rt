@@ -1,5 +1,6 @@
 // The level table: how many low bits of a gpa are zero at a level, and from which bit on its entry's index stands.
 #![tactic(auto)]
+
 ghost use Rattle.std.specs.Prelude.{◌≡◌};
 ghost use Rattle.base_levels.specs.Level.{row_of, level_ok, gpa_fits, index_at};
 

@@ -1,5 +1,6 @@
 -- Document 01, "The script": "Numbers: decimal, no sign, no leading zero but 0 itself, at most 2^64 - 1."
-use Rattle.base_rules.specs.Basics.{ℕ, zero, suc, ◌+◌, ◌-◌, ◌*◌, ◌/◌, ◌%◌, ◌^◌, Bool, true, false, List, [], ◌∷◌, ◌++◌, eqb, ltb, leb, length, get_or, choose}
+use Rattle.std.specs.Prelude.{ℕ, zero, suc, ◌+◌, ◌-◌, ◌*◌, ◌/◌, ◌%◌, ◌^◌, Bool, true, false, List, [], ◌∷◌, ◌++◌, eqb, ltb, leb, length, get_or}
+use Rattle.base_rules.specs.Basics.{choose}
 use Rattle.base_rules.specs.Basics.{need}
 use Rattle.base_units.specs.Limits.{between}
 use Rattle.base_numbers.specs.declared.Number.{Number, TheVariants.Is, TheVariants.No}

@@ -1,5 +1,6 @@
 -- Which frame an hpa names, and which hpa a frame has.
-use Rattle.base_rules.specs.Basics.{ℕ, ◌+◌, ◌-◌, ◌*◌, ◌/◌, ◌%◌, ◌^◌, ltb, leb, eqb, need}
+use Rattle.std.specs.Prelude.{ℕ, ◌+◌, ◌-◌, ◌*◌, ◌/◌, ◌%◌, ◌^◌, ltb, leb, eqb}
+use Rattle.base_rules.specs.Basics.{need}
 use Rattle.base_units.specs.Limits.{frame_bytes}
 use Rattle.base_units.specs.declared.address.{Hpa.Hpa, Pfn.Pfn, Place.Place, Place.TheVariants.At, Place.TheVariants.Outside}
 

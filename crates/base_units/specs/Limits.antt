@@ -1,7 +1,7 @@
 -- Document 01, "Sizes, unit first": the limits, each once. Request 6 raised four of them: "16384 frames, 64 records, 256 tables and keys 32
 -- to 95."
-use Rattle.std.specs.Prelude.{count_ones}
-use Rattle.base_rules.specs.Basics.{ℕ, ◌-◌, ◌%◌, ◌^◌, Bool, false, eqb, leb, need}
+use Rattle.std.specs.Prelude.{count_ones, ℕ, ◌-◌, ◌%◌, ◌^◌, Bool, false, eqb, leb}
+use Rattle.base_rules.specs.Basics.{need}
 use Rattle.base_units.specs.declared.address.Hpa.{Hpa}
 
 -- from `least` to `most`, both included

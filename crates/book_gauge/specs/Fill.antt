@@ -1,5 +1,5 @@
 -- "Fill is a binary64 number, exactly the frames that aren't NDA divided by the frames in the window."
-use Rattle.base_rules.specs.Basics.{◌≡◌, ℕ, zero, suc, ◌+◌, ◌-◌, ◌*◌, ◌^◌, ◌≤◌}
+use Rattle.std.specs.Prelude.{◌≡◌, ℕ, zero, suc, ◌+◌, ◌-◌, ◌*◌, ◌^◌, ◌≤◌}
 use lib.{IntN.pos, Ieee.Float, Ieee.binary64, Ieee.of_int, Ieee.div, Ieee.size, Ieee.to_bits}
 
 -- a / n in binary64

@@ -1,5 +1,6 @@
 -- Which floats are marks, and which two marks are in rule.
-use Rattle.base_rules.specs.Basics.{◌≡◌, Bool, true, false, not, ℕ, ◌+◌, ◌≤◌, ◌<◌, eqb, leb, need, given, any_from}
+use Rattle.std.specs.Prelude.{◌≡◌, Bool, true, false, not, ℕ, ◌+◌, ◌≤◌, ◌<◌, eqb, leb}
+use Rattle.base_rules.specs.Basics.{need, given, any_from}
 use lib.{IntN.pos, Ieee.Float, Ieee.fin, Ieee.binary64, Ieee.is_nan, Ieee.to_bits, Ieee.to_unsigned, Ieee.of_int, Ieee.mul, Ieee.le, Ieee.lt}
 use Rattle.base_units.specs.Limits.{frames_ok}
 use Rattle.book_gauge.specs.Fill.{ratio}

@@ -1,5 +1,6 @@
 // The fill gauge by value: the exact fill, marks in rule, and the lamp. Counts are frames, marks and fill are parts of the window.
 #![tactic(auto)]
+
 ghost use Rattle.std.specs.Prelude.{◌≡◌};
 ghost use Rattle.std.specs.Float.Ieee.{le};
 ghost use Rattle.book_gauge.specs.Fill.{Filled};

@@ -1,5 +1,6 @@
 -- The sizes of what is lent, by the lengths of the lent slices, and document 01's limits on them.
-use Rattle.base_rules.specs.Basics.{ℕ, ◌+◌, ◌-◌, ◌/◌, ◌%◌, Bool, false, eqb, ltb, choose, need, given}
+use Rattle.std.specs.Prelude.{ℕ, ◌+◌, ◌-◌, ◌/◌, ◌%◌, Bool, false, eqb, ltb}
+use Rattle.base_rules.specs.Basics.{choose, need, given}
 use Rattle.book_stock.specs.Bits.{word_bits}
 use Rattle.base_units.specs.declared.address.Hpa.{Hpa}
 use Rattle.base_units.specs.Limits as limits

@@ -1,5 +1,5 @@
 -- What the lent words say, at every number: a place outside says zero, and a write there changes nothing.
-use Rattle.base_rules.specs.Basics.{ℕ, ◌+◌, ◌*◌, ◌%◌, List, get_or, set}
+use Rattle.std.specs.Prelude.{ℕ, ◌+◌, ◌*◌, ◌%◌, List, get_or, set}
 use Rattle.base_units.specs.{Limits.table_entries, Limits.control_pages, Limits.record_words, declared.address.Pfn.Pfn}
 use Rattle.book_ledger.specs.Words.{frame_from, frame_word, domain_from, domain_word, entry_from, entry_word}
 use Rattle.book_ledger.specs.declared.words.{Frame.Frame, Domain.Domain, Entry.Entry}

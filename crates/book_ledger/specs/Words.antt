@@ -1,6 +1,6 @@
 -- The bits of the lent words (docs/TABLES.md): a record of the paper as one word, and back. Packing cuts each number to its
 -- bits, so it is total; the topmost field of a word takes all the bits that are left, so that nothing of a word is lost.
-use Rattle.base_rules.specs.Basics.{ℕ, ◌+◌, ◌*◌, ◌/◌, ◌%◌, ◌^◌, ◌<◌}
+use Rattle.std.specs.Prelude.{ℕ, ◌+◌, ◌*◌, ◌/◌, ◌%◌, ◌^◌, ◌<◌}
 use Rattle.book_ledger.specs.declared.words.{Frame.Frame, Domain.Domain, Entry.Entry}
 
 -- a frame: kind in bits 0 to 2, owner in 3 to 16, number in 17 to 24, epoch in 25 to 56, size from 57 up

@@ -1,7 +1,8 @@
 -- Answer 13: "any stored number or code outside its range (a frame's epoch from 0, a child count up to the frames)", and, of
 -- "What is written down", "A place without use [..] holds 0; another value there is out of range", "answer 13 doesn't look into
 -- unused ones".
-use Rattle.base_rules.specs.Basics.{ℕ, ◌+◌, Bool, false, List, length, eqb, ltb, leb, choose, implies, need, given, all_from}
+use Rattle.std.specs.Prelude.{ℕ, ◌+◌, Bool, false, List, length, eqb, ltb, leb}
+use Rattle.base_rules.specs.Basics.{choose, implies, need, given, all_from}
 use Rattle.base_units.specs.{Limits.table_entries, Limits.control_pages, Limits.epoch_most, Limits.key_ok, Limits.epoch_ok, declared.address.Hpa.Hpa}
 use Rattle.book_stock.specs.Bits.{in_use, spare_clear}
 use Rattle.book_ledger.specs.Codes.{NDA, TDR, TDCX, EPT, REG, WRITTEN_BACK, RUNNABLE, FREE, PENDING_BLOCKED}

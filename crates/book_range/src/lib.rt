@@ -1,5 +1,6 @@
 // Answer 13: whether every stored number and code is in its range, in a pass each over the frames, the tables in use and the records in use.
 #![tactic(auto)]
+
 ghost use Rattle.std.specs.Prelude.{◌≡◌};
 ghost use Rattle.book_ledger.specs.Tables.{lent};
 ghost use Rattle.book_range.specs.Range.{under, frame_limits, frame_ok, all_frames_ok, entry_ok, entries_ok, page_ok};

@@ -1,5 +1,6 @@
 -- "Each says whether it is in use": bit b stands in word b / 64, as bit b % 64 of it.
-use Rattle.base_rules.specs.Basics.{ℕ, zero, suc, ◌+◌, ◌-◌, ◌/◌, ◌%◌, ◌^◌, Bool, List, get_or, set, eqb, ltb, choose}
+use Rattle.std.specs.Prelude.{ℕ, zero, suc, ◌+◌, ◌-◌, ◌/◌, ◌%◌, ◌^◌, Bool, List, get_or, set, eqb, ltb}
+use Rattle.base_rules.specs.Basics.{choose}
 use Rattle.book_stock.specs.declared.bits.Lowest.{Lowest, TheVariants.At, TheVariants.Full}
 
 -- bits of a word

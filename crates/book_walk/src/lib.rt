@@ -1,5 +1,6 @@
 // The Secure EPT walk, from a domain's root down to the entry of a gpa at a level.
 #![tactic(auto)]
+
 ghost use Rattle.std.specs.Prelude.{◌≡◌};
 ghost use Rattle.book_walk.specs.Walk.{entry_type, own_frame, walk_from};
 

@@ -1,5 +1,6 @@
 // The calls that give a tree a frame: septadd, pageadd, pageaug.
 #![tactic(auto)]
+
 ghost use Rattle.std.specs.Prelude.{◌≡◌};
 ghost use Rattle.book_ledger.specs.Tables.{lent};
 ghost use Rattle.call_adds.specs.Adds.{free_for, hang, add_table_at, add_page_at, septadd_plan, page_plan};

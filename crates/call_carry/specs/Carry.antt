@@ -1,5 +1,6 @@
 -- What a plan leaves of the lent tables: an answer leaves them as they are, an edit writes what it says, and a sweep goes over every record.
-use Rattle.base_rules.specs.Basics.{ℕ, zero, suc, ◌+◌, ◌/◌, true, false, List, length, eqb, choose, given}
+use Rattle.std.specs.Prelude.{ℕ, zero, suc, ◌+◌, ◌/◌, true, false, List, length, eqb}
+use Rattle.base_rules.specs.Basics.{choose, given}
 use Rattle.base_units.specs.Limits.{record_words, table_entries}
 use Rattle.book_stock.specs.{Bits.in_use, Bits.set_use, Wipe.wiped_at}
 use Rattle.book_ledger.specs.{Sizes.bit_of, Tables.Tables, Tables.lent, Tables.set_frame, Tables.set_page, Tables.domain_at, Tables.set_domain, Tables.set_entry}

@@ -1,5 +1,6 @@
 // A plan carried out: the only code that writes the lent tables of a call.
 #![tactic(auto)]
+
 ghost use Rattle.std.specs.Prelude.{◌≡◌};
 ghost use Rattle.book_ledger.specs.Tables.{lent};
 ghost use Rattle.call_carry.specs.Carry.{after_frame, after_page, after_domain, after_use, after_record, after_block, after_entry, applied, swept_at, swept};

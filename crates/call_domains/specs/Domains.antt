@@ -1,5 +1,6 @@
 -- The calls on a domain's record, a row of "The calls" each.
-use Rattle.base_rules.specs.Basics.{ℕ, ◌+◌, ◌-◌, Bool, List, length, eqb, ltb, implies, need, given, all_from}
+use Rattle.std.specs.Prelude.{ℕ, ◌+◌, ◌-◌, Bool, List, length, eqb, ltb}
+use Rattle.base_rules.specs.Basics.{implies, need, given, all_from}
 use Rattle.base_units.specs.Limits.{between, control_pages, epoch_least, epoch_most, key_ok}
 use Rattle.base_units.specs.declared.address.{Hpa.Hpa, Pfn.Pfn}
 use Rattle.book_stock.specs.Bits.{in_use, lowest_unused, on_lowest}

@@ -1,5 +1,6 @@
 // The calls on domains' records: create, keyconfig, addcx, init, finalize, track, flushdone, cachewb, keyfree.
 #![tactic(auto)]
+
 ghost use Rattle.std.specs.Prelude.{◌≡◌};
 ghost use Rattle.book_ledger.specs.Tables.{lent};
 ghost use Rattle.call_domains.specs.Domains.{life_plan, cachewb_plan, op_plan, track_plan, enlist_at, addcx_plan, other_key, key_unused, new_record, create_at, create_plan};

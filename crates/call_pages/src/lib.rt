@@ -1,5 +1,6 @@
 // The calls on a frame alone: reclaim, readpage.
 #![tactic(auto)]
+
 ghost use Rattle.std.specs.Prelude.{◌≡◌};
 ghost use Rattle.book_ledger.specs.Tables.{lent};
 ghost use Rattle.call_pages.specs.Pages.{reclaim_tdr, reclaim_child, reclaim_at, reclaim_plan, readpage_plan};

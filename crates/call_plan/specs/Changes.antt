@@ -1,5 +1,6 @@
 -- How a call ends: refused, or with its domain's record changed and a frame gained or lost.
-use Rattle.base_rules.specs.Basics.{ℕ, ◌+◌, ◌-◌, length, eqb, ltb, choose, need, given}
+use Rattle.std.specs.Prelude.{ℕ, ◌+◌, ◌-◌, length, eqb, ltb}
+use Rattle.base_rules.specs.Basics.{choose, need, given}
 use Rattle.base_units.specs.declared.address.{Hpa.Hpa, Gpa.Gpa, Pfn.Pfn}
 use Rattle.book_ledger.specs.{Tables.Tables, declared.words.Frame.Frame, declared.words.Domain.Domain}
 use Rattle.base_calls.specs.{declared.Answer.TheVariants.No, Operands.NONE}

@@ -1,5 +1,6 @@
 // The calls on what a domain's tree has: block, unblock, pageremove, septremove, readentry.
 #![tactic(auto)]
+
 ghost use Rattle.std.specs.Prelude.{◌≡◌};
 ghost use Rattle.book_ledger.specs.Tables.{lent};
 ghost use Rattle.call_plan.specs.Changes.{lose};

@@ -1,5 +1,6 @@
 -- Document 01, "The script": a line of the output is a row of words and numbers, parted by tabs.
-use Rattle.base_rules.specs.Basics.{ℕ, ◌+◌, Bool, List, [], ◌∷◌, ◌++◌, ltb, length, set, choose}
+use Rattle.std.specs.Prelude.{ℕ, ◌+◌, Bool, List, [], ◌∷◌, ◌++◌, ltb, length, set}
+use Rattle.base_rules.specs.Basics.{choose}
 use Rattle.base_units.specs.{Limits.frame_bytes, declared.address.Hpa.Hpa}
 use Rattle.base_calls.specs.Answers.{number_of}
 use Rattle.base_calls.specs.declared.Answer.{Answer, TheVariants.Done, TheVariants.Page, TheVariants.Entry, TheVariants.No, TheVariants.Stop}

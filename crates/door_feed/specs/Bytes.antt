@@ -1,6 +1,7 @@
 -- "Lines end in LF; a last line may lack it. [..] or a line above 120 bytes (LF not counted) answers 15. Line 10001 answers 15 and ends the
 -- reading."
-use Rattle.base_rules.specs.Basics.{ℕ, ◌+◌, List, set, eqb, leb, ltb, choose, need}
+use Rattle.std.specs.Prelude.{ℕ, ◌+◌, List, set, eqb, leb, ltb}
+use Rattle.base_rules.specs.Basics.{choose, need}
 use Rattle.door_feed.specs.declared.{Feed.Feed, Turn.Turn, Turn.TheVariants.Hold, Turn.TheVariants.Ends, Turn.TheVariants.Stop}
 
 abbrev feed : ℕ → ℕ → Feed

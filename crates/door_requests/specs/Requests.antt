@@ -1,5 +1,5 @@
 -- Which ask a request makes: each call's number, in the order of "The calls", behind reset and the setting of the marks; then the requests' calls.
-use Rattle.base_rules.specs.Basics.{ℕ, List, [], ◌∷◌, get_or}
+use Rattle.std.specs.Prelude.{ℕ, List, [], ◌∷◌, get_or}
 use Rattle.base_calls.specs.declared.{Call.Call, Ask.Ask, Ask.TheVariants.Host, Ask.TheVariants.Marks, Ask.TheVariants.Reset, Ask.TheVariants.Unreadable}
 use Rattle.door_requests.specs.declared.Request.{Request}
 

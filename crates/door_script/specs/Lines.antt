@@ -1,5 +1,6 @@
 -- Document 01, "The script": "One call a line: its name, then for each operand in table order the unit and the number, parted by single tabs."
-use Rattle.base_rules.specs.Basics.{ℕ, zero, suc, ◌+◌, Bool, false, List, [], ◌∷◌, ◌++◌, eqb, leb, length, get_or, drop, choose, need}
+use Rattle.std.specs.Prelude.{ℕ, zero, suc, ◌+◌, Bool, false, List, [], ◌∷◌, ◌++◌, eqb, leb, length, get_or, drop}
+use Rattle.base_rules.specs.Basics.{choose, need}
 use Prim.Native.String.{String}
 use Rattle.base_calls.specs.declared.Call.{Call}
 use Rattle.door_script.specs.{Text.bytes, Text.tab, Text.lf, Text.upto, Rows.Row, Rows.create_row, Rows.rows}

@@ -1,6 +1,6 @@
 -- Document 01, "The calls" and "The script": a row for each call, its name, the units of its operands in table order, and the call that it makes
 -- of their numbers, counted from 0. Then the requests' calls.
-use Rattle.base_rules.specs.Basics.{ℕ, List, [], ◌∷◌}
+use Rattle.std.specs.Prelude.{ℕ, List, [], ◌∷◌}
 use Prim.Native.String.{String}
 use Rattle.base_units.specs.declared.address.{Hpa.Hpa, Gpa.Gpa}
 use Rattle.base_calls.specs.declared.Call.{Call}

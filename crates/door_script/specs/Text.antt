@@ -1,5 +1,6 @@
 -- Text as a list of bytes.
-use Rattle.base_rules.specs.Basics.{ℕ, List, [], ◌∷◌, eqb, choose}
+use Rattle.std.specs.Prelude.{ℕ, List, [], ◌∷◌, eqb}
+use Rattle.base_rules.specs.Basics.{choose}
 use Prim.Native.Char.{code}
 use Prim.Native.String.{String, [] as none, ◌∷◌ as ◌then◌}
 

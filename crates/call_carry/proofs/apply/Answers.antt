@@ -6,10 +6,11 @@ use Rattle.call_carry.proofs.apply.Goals as goal
 pub returns : goal.returns
 unfolding applied
 returns c = rw (
-      c.apply_frame.ensures,
-      c.apply_use.ensures,
-      c.apply_page.ensures,
-      c.apply_domain.ensures,
-      c.apply_record.ensures,
-      c.apply_entry.ensures,
-      c.apply_block.ensures)
+  c.apply_frame.ensures,
+  c.apply_use.ensures,
+  c.apply_page.ensures,
+  c.apply_domain.ensures,
+  c.apply_record.ensures,
+  c.apply_entry.ensures,
+  c.apply_block.ensures,
+)

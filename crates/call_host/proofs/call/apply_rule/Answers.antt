@@ -6,6 +6,7 @@ use Rattle.call_host.proofs.call.apply_rule.Goals as goal
 pub returns : goal.returns
 unfolding rule_of settled
 returns c = rw (
-      ← c.plan_of-p.ensures,
-      ← c.carry-answer.ensures,
-      ← c.gauge_after-gauge.ensures)
+  ← c.plan_of-p.ensures,
+  ← c.carry-answer.ensures,
+  ← c.gauge_after-gauge.ensures,
+)
