@@ -153,12 +153,13 @@ static size_t stack_bytes_of(reefnettle_request next)
     return sizeof stack - untouched;
 }
 
-/* The first reset goes unmeasured: it may bind memset, which takes stack of its own. */
+/* The first life goes unmeasured: it may bind memset and memcpy, which takes stack of its own. */
 static size_t most_stack_bytes(void)
 {
     size_t most = 0;
     asked = lend(REEFNETTLE_FRAMES_LEAST, REEFNETTLE_RECORDS_LEAST, REEFNETTLE_TABLES_LEAST);
-    reefnettle_reset(&asked);
+    for (size_t step = 0; step < sizeof life / sizeof life[0]; step++)
+        must(reefnettle_ask_model(&asked, life[step]));
     for (size_t step = 0; step < sizeof life / sizeof life[0]; step++) {
         const size_t bytes = stack_bytes_of(life[step]);
         most = bytes > most ? bytes : most;
