@@ -43,7 +43,7 @@
  * What the library is.
  *   - For x86-64 alone, by the System V ABI. On another processor it links into programs for x86-64 only.
  *   - It has no data of its own. Two threads may ask at once on two models, never on one.
- *   - It allocates nothing, makes no system call, and needs two functions of the C library: memcpy and memset.
+ *   - It allocates nothing, makes no system call, and needs two functions of the C library: memset and memcpy.
  *   - A call takes at most bytes 4096 of stack, and so does a run's beginning.
  *   - Every call by itself, but reset, reads all words of `frames` and all entries of the blocks in use, for answer 13.
  *     Its time grows in a straight line with these, whatever the call. A run reads them once, at its beginning: within
