@@ -75,7 +75,7 @@ static bool rehearse(const planned_call *calls, size_t number_of_calls)
         }
     }
     reefnettle_run_end(&model, &run);
-    printf("rehearsal: calls %zu, all accepted, frames %.0f used then\n", number_of_calls, copy.gauge.fill * FRAMES);
+    printf("rehearsal: calls %zu, all accepted\n", number_of_calls);
     return true;
 }
 
