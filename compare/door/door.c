@@ -6,9 +6,8 @@
  * words there and reads them back. Here the parts are mapped apart, with memory around each that nobody may touch: an
  * array that ends where its part ends, or begins where its part begins, can't be left on that side. The program dies.
  *
- * Messages come on standard input, and for each an answer goes to standard output, as the bytes of their structs. A run
- * goes along in them: the door keeps nothing of it, so that single asks and several runs may come by turns. First of all
- * the bytes of a message are told, in a word: FILE is then mapped, and whoever asks sees whether the sides fit.
+ * Messages come on standard input, and for each an answer goes to standard output, as the bytes of their structs. First
+ * of all the bytes of a message are told, in a word: FILE is then mapped, and whoever asks sees whether the sides fit.
  *
  * It has no C library: the system calls are those of Linux on x86-64. On another processor the kit's emulator runs it.
  */
@@ -24,24 +23,17 @@ typedef struct {
     uint64_t words;
 } array;
 
-/* What a message wants: an ask, a run's beginning, or the next ask of one. */
-enum { ASK, BEGIN, NEXT };
-
 typedef struct {
     reefnettle_hpa base;
     array arrays[GAUGE];
     uint64_t gauge_at;
-    uint64_t wanted;
-    reefnettle_run known; /* for NEXT alone */
     reefnettle_request request;
 } message;
 
 _Static_assert(sizeof(reefnettle_request) == 64, "bytes of a request");
 _Static_assert(sizeof(reefnettle_answer) == 48, "bytes of an answer");
 _Static_assert(sizeof(reefnettle_gauge) == 32, "bytes of a gauge");
-_Static_assert(sizeof(reefnettle_run) == 48, "bytes of a run");
-_Static_assert(sizeof(reefnettle_next_answer) == 96, "bytes of an answer with its run");
-_Static_assert(sizeof(message) == 200, "bytes of a message");
+_Static_assert(sizeof(message) == 144, "bytes of a message");
 
 enum { STATUS_END_OF_INPUT = 0, STATUS_USAGE = 2, STATUS_NO_FILE = 3, STATUS_BROKEN_PIPE = 4 };
 
@@ -129,28 +121,15 @@ static void map_parts(const char *path, uintptr_t parts[PARTS])
     }
 }
 
-static reefnettle_model lend(const uintptr_t parts[PARTS], const message *m)
+static reefnettle_answer ask(const uintptr_t parts[PARTS], const message *m)
 {
     const array *arrays = m->arrays;
-    return (reefnettle_model){
-        .base = m->base,
-        .frames = (uint64_t *)(parts[FRAMES] + arrays[FRAMES].at), .frames_words = arrays[FRAMES].words,
-        .domains = (uint64_t *)(parts[DOMAINS] + arrays[DOMAINS].at), .domains_words = arrays[DOMAINS].words,
-        .stock = (uint64_t *)(parts[STOCK] + arrays[STOCK].at), .stock_words = arrays[STOCK].words,
-        .entries = (uint32_t *)(parts[ENTRIES] + arrays[ENTRIES].at), .entries_words = arrays[ENTRIES].words,
-        .gauge = (reefnettle_gauge *)(parts[GAUGE] + m->gauge_at),
-    };
-}
-
-/* An ask gives the run back as it came, a beginning gives an answer of zeros. */
-static reefnettle_next_answer give(const uintptr_t parts[PARTS], const message *m)
-{
-    const reefnettle_model model = lend(parts, m);
-    reefnettle_next_answer given = {.run = m->known};
-    if (m->wanted == ASK) given.answer = reefnettle_ask_model(&model, m->request);
-    if (m->wanted == BEGIN) given.run = reefnettle_run_begin(&model);
-    if (m->wanted == NEXT) given.answer = reefnettle_run_ask(&model, &given.run, m->request);
-    return given;
+    return reefnettle_ask(m->base,
+                          (uint64_t *)(parts[FRAMES] + arrays[FRAMES].at), arrays[FRAMES].words,
+                          (uint64_t *)(parts[DOMAINS] + arrays[DOMAINS].at), arrays[DOMAINS].words,
+                          (uint64_t *)(parts[STOCK] + arrays[STOCK].at), arrays[STOCK].words,
+                          (uint32_t *)(parts[ENTRIES] + arrays[ENTRIES].at), arrays[ENTRIES].words,
+                          (reefnettle_gauge *)(parts[GAUGE] + m->gauge_at), m->request);
 }
 
 /* On the stack that a program begins with lie the number of its words, and the words: its name, then its arguments. */
@@ -163,8 +142,8 @@ __attribute__((used)) static _Noreturn void serve(const uintptr_t *stack)
     map_parts((const char *)stack[2], parts);
     write_all(&message_bytes, sizeof message_bytes);
     while (read_message(&m)) {
-        reefnettle_next_answer given = give(parts, &m);
-        write_all(&given, sizeof given);
+        reefnettle_answer answer = ask(parts, &m);
+        write_all(&answer, sizeof answer);
     }
     leave(STATUS_END_OF_INPUT);
 }

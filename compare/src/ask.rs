@@ -1,6 +1,6 @@
 //! What is asked, and what is answered.
 
-use crate::lent::{Gauge, Gpa, Hpa, Key, Level};
+use crate::lent::{Gpa, Hpa, Key, Level};
 
 /// Numbers of the calls.
 pub mod number {
@@ -53,15 +53,6 @@ pub struct Answer {
     pub level: Level,
     pub state: u64,
     pub hpa: Hpa,
-}
-
-/// What a run knows of its tables.
-#[derive(Clone, Copy, Debug, PartialEq)]
-pub struct Run {
-    pub gauge: Gauge,
-    pub used: u64,
-    pub lent: bool,
-    pub marked: bool,
 }
 
 pub(crate) const REQUEST_WORDS: usize = 8;

@@ -9,7 +9,7 @@ use std::sync::{Arc, Mutex, PoisonError};
 use std::thread;
 use std::time::Duration;
 
-use crate::ask::{Answer, Request, Run, ANSWER_WORDS, REQUEST_WORDS};
+use crate::ask::{Answer, Request, ANSWER_WORDS, REQUEST_WORDS};
 use crate::lent::{Gauge, Hpa, Parts};
 use crate::shared::{Part, Shared, Side, Span, Word};
 
@@ -18,39 +18,17 @@ pub const PATIENCE: Duration = Duration::from_secs(60);
 
 const WORD_BYTES: usize = 8;
 const GAUGE_WORDS: usize = 4;
-const RUN_WORDS: usize = GAUGE_WORDS + 2;
 const ARRAYS: usize = 4;
 
-/// The base, where each array lies and its length, where the gauge lies.
-const LENT_WORDS: usize = 1 + 2 * ARRAYS + 1;
-
-/// What is lent, what is wanted, what a run knows, the request.
-const MESSAGE_WORDS: usize = LENT_WORDS + 1 + RUN_WORDS + REQUEST_WORDS;
+/// The base, where each array lies and its length, where the gauge lies, the
+/// request.
+const MESSAGE_WORDS: usize = 1 + 2 * ARRAYS + 1 + REQUEST_WORDS;
 
 /// What a request comes to: its answer, and what was lent after it.
 #[derive(Clone, Debug, PartialEq)]
 pub struct Outcome {
     pub answer: Answer,
     pub lent: Parts,
-}
-
-/// What a message wants; door.c has the same.
-#[derive(Clone, Copy)]
-enum Wanted<'a> {
-    Ask(&'a Request),
-    Begin,
-    Next(&'a Run, &'a Request),
-}
-
-impl Wanted<'_> {
-    /// Its number, what a run knows, and the request; zeros where there is none.
-    fn words(self) -> (u64, [u64; RUN_WORDS], [u64; REQUEST_WORDS]) {
-        match self {
-            Wanted::Ask(request) => (0, [0; RUN_WORDS], request.words()),
-            Wanted::Begin => (1, [0; RUN_WORDS], [0; REQUEST_WORDS]),
-            Wanted::Next(run, request) => (2, run_words(run), request.words()),
-        }
-    }
 }
 
 /// Why there is no outcome.
@@ -62,8 +40,8 @@ pub enum Fault {
     Silent(Duration),
     /// It is no door, or one for other messages.
     Unfit { message_bytes: u64 },
-    /// A bool, this one, holds neither byte 0 nor byte 1.
-    Bool(&'static str, u64),
+    /// The lamp holds neither byte 0 nor byte 1.
+    Lamp(u64),
     /// It can't be started, or the file can't be shared.
     System(io::Error),
 }
@@ -86,7 +64,7 @@ impl Display for Fault {
                     "the door takes messages of bytes {message_bytes}, not of bytes {ours}"
                 )
             }
-            Fault::Bool(name, byte) => write!(f, "the {name} holds byte {byte}"),
+            Fault::Lamp(byte) => write!(f, "the lamp holds byte {byte}"),
             Fault::System(error) => write!(f, "the door can't be used: {error}"),
         }
     }
@@ -136,48 +114,15 @@ impl Door {
 
     /// Asks the library. What was lent is read back whole, whatever the answer.
     pub fn ask(&mut self, lent: &Parts, request: &Request) -> Result<Outcome, Fault> {
-        let (outcome, _) = self.exchange(lent, Wanted::Ask(request))?;
-        Ok(outcome)
-    }
-
-    /// Begins a run: what it knows, and what was lent, read back whole.
-    pub fn begin(&mut self, lent: &Parts) -> Result<(Run, Parts), Fault> {
-        let (outcome, run) = self.exchange(lent, Wanted::Begin)?;
-        Ok((run_of(run)?, outcome.lent))
-    }
-
-    /// Asks the next request of a run that knows these words. The gauge of the
-    /// outcome is the run's; the lent one takes no part.
-    pub fn next(
-        &mut self,
-        lent: &Parts,
-        run: &Run,
-        request: &Request,
-    ) -> Result<(Outcome, Run), Fault> {
-        let (mut outcome, run) = self.exchange(lent, Wanted::Next(run, request))?;
-        let run = run_of(run)?;
-        outcome.lent.gauge = run.gauge;
-        Ok((outcome, run))
-    }
-
-    /// Sends a message: the outcome, and the words of the run.
-    fn exchange(
-        &mut self,
-        lent: &Parts,
-        wanted: Wanted,
-    ) -> Result<(Outcome, [u64; RUN_WORDS]), Fault> {
         let spans = self.lend(lent)?;
         let lengths = [&lent.frames, &lent.domains, &lent.stock].map(Vec::len);
         let [frames, domains, stock] = lengths;
         let words = [frames, domains, stock, lent.entries.len()];
         self.process
-            .send(&message(lent.base, &spans, words, wanted))?;
-        let given = self.process.receive::<{ ANSWER_WORDS + RUN_WORDS }>()?;
-        let (answer, run) = given.split_at(ANSWER_WORDS);
-        let answer = Answer::of_words(answer.try_into().expect("the words of an answer"));
+            .send(&message(lent.base, &spans, words, request))?;
+        let answer = Answer::of_words(self.process.receive::<ANSWER_WORDS>()?);
         let lent = self.take_back(lent.base, &spans)?;
-        let run = run.try_into().expect("the words of a run");
-        Ok((Outcome { answer, lent }, run))
+        Ok(Outcome { answer, lent })
     }
 
     fn lend(&mut self, lent: &Parts) -> io::Result<[Span; ARRAYS + 1]> {
@@ -208,20 +153,17 @@ fn message(
     base: Hpa,
     spans: &[Span; ARRAYS + 1],
     lengths: [usize; ARRAYS],
-    wanted: Wanted,
+    request: &Request,
 ) -> [u64; MESSAGE_WORDS] {
     let mut message = [0; MESSAGE_WORDS];
-    let (lent, asked) = message.split_at_mut(LENT_WORDS);
+    let (lent, asked) = message.split_at_mut(MESSAGE_WORDS - REQUEST_WORDS);
     lent[0] = base.0;
     for (array, (span, words)) in spans.iter().zip(lengths).enumerate() {
         lent[1 + 2 * array] = span.at as u64;
         lent[2 + 2 * array] = words as u64;
     }
     lent[1 + 2 * ARRAYS] = spans[ARRAYS].at as u64;
-    let (number, known, request) = wanted.words();
-    asked[0] = number;
-    asked[1..][..RUN_WORDS].copy_from_slice(&known);
-    asked[1 + RUN_WORDS..].copy_from_slice(&request);
+    asked.copy_from_slice(&request.words());
     message
 }
 
@@ -233,39 +175,18 @@ fn gauge_words(gauge: &Gauge) -> [u64; GAUGE_WORDS] {
 
 fn gauge_of(words: &[u64]) -> Result<Gauge, Fault> {
     let [raise, clear, fill] = [words[0], words[1], words[2]].map(f64::from_bits);
+    // The bytes behind the lamp's are nobody's.
+    let lamp = match words[3] & 0xff {
+        0 => false,
+        1 => true,
+        byte => return Err(Fault::Lamp(byte)),
+    };
     Ok(Gauge {
         raise,
         clear,
         fill,
-        lamp: bool_of("lamp", words[3])?,
+        lamp,
     })
-}
-
-/// The words of the header's struct, whose two bools are bytes of the last.
-fn run_words(run: &Run) -> [u64; RUN_WORDS] {
-    let [raise, clear, fill, lamp] = gauge_words(&run.gauge);
-    let bools = u64::from(run.lent) | u64::from(run.marked) << 8;
-    [raise, clear, fill, lamp, run.used, bools]
-}
-
-fn run_of(words: [u64; RUN_WORDS]) -> Result<Run, Fault> {
-    let [.., used, bools] = words;
-    Ok(Run {
-        gauge: gauge_of(&words)?,
-        used,
-        lent: bool_of("run's word on its tables", bools)?,
-        marked: bool_of("run's word on its marks", bools >> 8)?,
-    })
-}
-
-/// The bool in the lowest byte of a word. The bytes behind it are another's, or
-/// nobody's.
-fn bool_of(name: &'static str, word: u64) -> Result<bool, Fault> {
-    match word & 0xff {
-        0 => Ok(false),
-        1 => Ok(true),
-        byte => Err(Fault::Bool(name, byte)),
-    }
 }
 
 /// The door's process, and somebody who ends it if it is silent for too long.

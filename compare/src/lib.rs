@@ -10,6 +10,6 @@ mod door;
 mod lent;
 mod shared;
 
-pub use ask::{number, Answer, Request, Run};
+pub use ask::{number, Answer, Request};
 pub use door::{Door, Fault, Outcome, PATIENCE};
 pub use lent::{Gauge, Gpa, Hpa, Key, Level, Parts, FRAME_BYTES};

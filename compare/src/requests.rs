@@ -39,17 +39,6 @@ impl<'a> Requests<'a> {
         }
     }
 
-    /// Any request of a run: often a reset or a setting of marks, for what the
-    /// run knows after these is made anew.
-    pub fn any_in_run(&mut self) -> Request {
-        let any = self.any();
-        match self.rng.below(8) {
-            0 => with_call(any, number::RESET),
-            1 | 2 => with_call(any, number::SET_MARKS),
-            _ => any,
-        }
-    }
-
     /// A call that brings a domain on, and is mostly accepted.
     pub fn likely(&mut self) -> Request {
         let tdr = self.frame_of(|kind| kind == frame_type::TDR);

@@ -1,4 +1,4 @@
-//! The twin's side of a comparison, and what differs between two sides.
+//! The twin's side of a comparison, and what differs between the two.
 
 use std::fmt::Debug;
 
@@ -110,60 +110,35 @@ fn numbers_of(answer: reefnettle_twin::Answer) -> Answer {
     }
 }
 
-/// The two sides of a comparison, by their names.
-#[derive(Clone, Copy)]
-pub struct Sides(&'static str, &'static str);
+/// The first thing in which the sides differ.
+pub fn difference(library: &Outcome, twin: &Outcome) -> Option<String> {
+    let (ours, theirs) = (&library.lent, &twin.lent);
+    let gauge = |lent: &Parts| {
+        let gauge = &lent.gauge;
+        let marks = [gauge.raise, gauge.clear, gauge.fill].map(f64::to_bits);
+        (marks, gauge.lamp)
+    };
+    differ("answer", &library.answer, &twin.answer)
+        .or_else(|| differ("base", &ours.base, &theirs.base))
+        .or_else(|| differ_in("frames", &ours.frames, &theirs.frames))
+        .or_else(|| differ_in("domains", &ours.domains, &theirs.domains))
+        .or_else(|| differ_in("stock", &ours.stock, &theirs.stock))
+        .or_else(|| differ_in("entries", &ours.entries, &theirs.entries))
+        .or_else(|| differ("gauge's bits", &gauge(ours), &gauge(theirs)))
+}
 
-/// The library, and the twin that says what is right.
-pub const BOTH: Sides = Sides("library", "twin");
+fn differ<T: PartialEq + Debug>(name: &str, library: &T, twin: &T) -> Option<String> {
+    (library != twin).then(|| format!("{name}: library {library:?}, twin {twin:?}"))
+}
 
-/// A run, and the single asks that say what is right.
-pub const RUN: Sides = Sides("run", "single");
-
-/// A run's beginning, which changes nothing.
-pub const BEGINNING: Sides = Sides("after", "before");
-
-impl Sides {
-    /// The first thing in which the outcomes differ.
-    pub fn difference(self, ours: &Outcome, theirs: &Outcome) -> Option<String> {
-        self.differ("answer", &ours.answer, &theirs.answer)
-            .or_else(|| self.difference_in_words(&ours.lent, &theirs.lent))
+fn differ_in<T: PartialEq + Debug>(name: &str, library: &[T], twin: &[T]) -> Option<String> {
+    // Most often nothing does, and that is seen faster at once.
+    if library == twin {
+        return None;
     }
-
-    /// The first of the lent words that differ.
-    pub fn difference_in_words(self, ours: &Parts, theirs: &Parts) -> Option<String> {
-        let gauge = |lent: &Parts| {
-            let gauge = &lent.gauge;
-            let marks = [gauge.raise, gauge.clear, gauge.fill].map(f64::to_bits);
-            (marks, gauge.lamp)
-        };
-        self.differ("base", &ours.base, &theirs.base)
-            .or_else(|| self.differ_in("frames", &ours.frames, &theirs.frames))
-            .or_else(|| self.differ_in("domains", &ours.domains, &theirs.domains))
-            .or_else(|| self.differ_in("stock", &ours.stock, &theirs.stock))
-            .or_else(|| self.differ_in("entries", &ours.entries, &theirs.entries))
-            .or_else(|| self.differ("gauge's bits", &gauge(ours), &gauge(theirs)))
-    }
-
-    fn differ<T: PartialEq + Debug>(self, name: &str, ours: &T, theirs: &T) -> Option<String> {
-        let Sides(us, them) = self;
-        (ours != theirs).then(|| format!("{name}: {us} {ours:?}, {them} {theirs:?}"))
-    }
-
-    fn differ_in<T: PartialEq + Debug>(
-        self,
-        name: &str,
-        ours: &[T],
-        theirs: &[T],
-    ) -> Option<String> {
-        // Most often nothing does, and that is seen faster at once.
-        if ours == theirs {
-            return None;
-        }
-        let words = ours.iter().zip(theirs).enumerate();
-        words
-            .filter(|(_, (a, b))| a != b)
-            .find_map(|(at, (a, b))| self.differ(&format!("{name}[{at}]"), a, b))
-            .or_else(|| self.differ(&format!("words of {name}"), &ours.len(), &theirs.len()))
-    }
+    let words = library.iter().zip(twin).enumerate();
+    words
+        .filter(|(_, (a, b))| a != b)
+        .find_map(|(at, (a, b))| differ(&format!("{name}[{at}]"), a, b))
+        .or_else(|| differ(&format!("words of {name}"), &library.len(), &twin.len()))
 }

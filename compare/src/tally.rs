@@ -6,7 +6,6 @@ use std::fmt::Display;
 use reefnettle_compare::number;
 
 use crate::places::Place;
-use crate::runs::Met;
 use crate::spoil::{Sizes, Spoil, SIZES};
 use crate::sweeping::Sweep;
 use crate::tracking::Untracked;
@@ -25,7 +24,6 @@ pub struct Tally {
     places: BTreeMap<Place, u64>,
     untracked: BTreeMap<Untracked, u64>,
     sweeps: BTreeMap<Sweep, u64>,
-    runs: BTreeMap<Met, u64>,
 }
 
 impl Tally {
@@ -58,10 +56,6 @@ impl Tally {
         *self.sweeps.entry(sweep).or_default() += 1;
     }
 
-    pub fn note_in_run(&mut self, met: Met) {
-        *self.runs.entry(met).or_default() += 1;
-    }
-
     /// Prints all counts; false if something was never met.
     pub fn report(&self) -> bool {
         println!("cases\t{}", self.cases);
@@ -81,7 +75,6 @@ impl Tally {
             list("place of 14", &self.places, Place::ALL.map(own_name)),
             list("not tracked", &self.untracked, Untracked::ALL.map(own_name)),
             list("cachewb", &self.sweeps, Sweep::ALL.map(own_name)),
-            list("run", &self.runs, Met::ALL.map(own_name)),
         ];
         met.iter().all(|&met| met)
     }

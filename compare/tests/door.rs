@@ -38,7 +38,7 @@ fn a_door_for_other_messages_is_refused() {
     let text = fault(r"printf 'A\0\0\0\0\0\0\0'", PATIENCE).to_string();
     assert_eq!(
         text,
-        "the door takes messages of bytes 65, not of bytes 200"
+        "the door takes messages of bytes 65, not of bytes 144"
     );
 }
 

@@ -165,8 +165,6 @@ fn answer_13_is_given_exactly_out_of_range() {
         change(&mut lent);
         let answer = door.ask(&lent, &read_tdr()).unwrap().answer;
         assert_eq!(answer.number, if in_range { 0 } else { 13 }, "{what}");
-        let (run, _) = door.begin(&lent).unwrap();
-        assert_eq!(run.lent, in_range, "{what}");
     }
 }
 

@@ -1,13 +1,12 @@
 //! Hand-made sequences of asks, with each answer from 0 to 14: a line a step,
 //! with the answer, all that is read out, the frames in use and the lamp. The
-//! lines beside this file were written from the paper. Single asks and runs are
-//! both held against them. Frames 512, records 2, tables 4; the domain is at
-//! frame 0 where nothing else is said.
+//! lines beside this file were written from the paper. Frames 512, records 2,
+//! tables 4; the domain is at frame 0 where nothing else is said.
 
 mod common;
 
 use reefnettle_compare::{
-    number, Answer, Door, Gauge, Gpa, Hpa, Key, Level, Outcome, Parts, Request, Run, FRAME_BYTES,
+    number, Answer, Door, Gauge, Gpa, Hpa, Key, Level, Outcome, Parts, Request, FRAME_BYTES,
 };
 
 const LINES: &str = include_str!("sequences.lines");
@@ -600,73 +599,41 @@ fn sequences() -> Vec<(&'static str, Vec<Step>)> {
     ]
 }
 
-/// How requests are asked.
-enum Asking {
-    Singly,
-    /// The run, until something is done by hand: then another begins.
-    InRuns(Option<Run>),
+/// The ask's answer. A refusal must leave every word and the gauge as they were.
+fn answered(door: &mut Door, parts: &mut Parts, request: Request) -> Answer {
+    let Outcome { answer, lent } = door.ask(parts, &request).unwrap();
+    assert!(
+        answer.number == 0 || lent == *parts,
+        "{request:?} changed something"
+    );
+    *parts = lent;
+    answer
 }
 
-impl Asking {
-    fn outcome(&mut self, door: &mut Door, parts: &Parts, request: &Request) -> Outcome {
-        let Asking::InRuns(run) = self else {
-            return door.ask(parts, request).unwrap();
-        };
-        let known = run.unwrap_or_else(|| door.begin(parts).unwrap().0);
-        let (outcome, known) = door.next(parts, &known, request).unwrap();
-        *run = Some(known);
-        outcome
-    }
-
-    /// The ask's answer. A refusal must leave every word and the gauge as they
-    /// were.
-    fn answered(&mut self, door: &mut Door, parts: &mut Parts, request: Request) -> Answer {
-        let Outcome { answer, lent } = self.outcome(door, parts, &request);
-        assert!(
-            answer.number == 0 || lent == *parts,
-            "{request:?} changed something"
-        );
-        *parts = lent;
-        answer
-    }
-
-    /// What is told of a step; nothing if it isn't asked, or only asked.
-    fn taken(&mut self, door: &mut Door, parts: &mut Parts, step: Step) -> Option<Answer> {
-        match step {
-            Step::Told(request) => return Some(self.answered(door, parts, request)),
-            Step::Quiet(request) => {
-                self.answered(door, parts, request);
-                return None;
-            }
-            Step::Frame(frame, word) => parts.frames[frame] = word,
-            Step::Record(word) => parts.domains[0] = word,
-            Step::Stock(word) => parts.stock[0] = word,
-            Step::OddMarks => {
-                parts.gauge = Gauge {
-                    raise: 0.0,
-                    clear: 0.0,
-                    fill: parts.gauge.fill,
-                    lamp: true,
-                }
-            }
-            Step::ResetAt(base) => {
-                self.end_run();
-                parts.base = base;
-                let answer = self.answered(door, parts, Request::default());
-                parts.base = BASE;
-                self.end_run();
-                return Some(answer);
+/// What is told of a step; nothing if it isn't asked, or only asked.
+fn taken(door: &mut Door, parts: &mut Parts, step: Step) -> Option<Answer> {
+    match step {
+        Step::Told(request) => return Some(answered(door, parts, request)),
+        Step::Quiet(request) => drop(answered(door, parts, request)),
+        Step::Frame(frame, word) => parts.frames[frame] = word,
+        Step::Record(word) => parts.domains[0] = word,
+        Step::Stock(word) => parts.stock[0] = word,
+        Step::OddMarks => {
+            parts.gauge = Gauge {
+                raise: 0.0,
+                clear: 0.0,
+                fill: parts.gauge.fill,
+                lamp: true,
             }
         }
-        self.end_run();
-        None
-    }
-
-    fn end_run(&mut self) {
-        if let Asking::InRuns(run) = self {
-            *run = None;
+        Step::ResetAt(base) => {
+            parts.base = base;
+            let answer = answered(door, parts, Request::default());
+            parts.base = BASE;
+            return Some(answer);
         }
     }
+    None
 }
 
 fn line(sequence: &str, step: usize, answer: Answer, parts: &Parts) -> String {
@@ -697,8 +664,8 @@ fn line(sequence: &str, step: usize, answer: Answer, parts: &Parts) -> String {
         })
 }
 
-/// Asks all sequences, and holds what is told against the lines.
-fn tell(mut asking: Asking) {
+#[test]
+fn the_sequences_are_answered_as_the_paper_says() {
     // One set of words for all: each sequence begins with a reset.
     let mut parts = Parts {
         base: BASE,
@@ -714,7 +681,7 @@ fn tell(mut asking: Asking) {
     for (name, steps) in sequences() {
         let mut told = 0;
         for step in steps {
-            let Some(answer) = asking.taken(&mut door, &mut parts, step) else {
+            let Some(answer) = taken(&mut door, &mut parts, step) else {
                 continue;
             };
             let ours = line(name, told, answer, &parts);
@@ -725,14 +692,4 @@ fn tell(mut asking: Asking) {
     }
     assert_eq!(expected.next(), None);
     assert_eq!(met, [true; 15], "an answer from 0 to 14 was never met");
-}
-
-#[test]
-fn the_sequences_are_answered_as_the_paper_says() {
-    tell(Asking::Singly);
-}
-
-#[test]
-fn runs_are_answered_as_the_paper_says() {
-    tell(Asking::InRuns(None));
 }
