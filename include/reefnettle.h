@@ -1,7 +1,8 @@
 /* Reefnettle: a verified model of the ownership tables of an Intel TDX module.
  *
  * The library keeps no memory of its own. The caller lends it four arrays of words and a gauge, and asks one call at a
- * time. An accepted call changes what was lent, a refused one changes no byte of it. C99 or later, or C++11 or later.
+ * time, by itself or in a run of many. An accepted call changes what was lent, a refused one changes no byte of it. C99
+ * or later, or C++11 or later.
  *
  * Two units are never mixed. An hpa is an address in bytes: the base, operands and answers have it. A frame is a number
  * in the window, from frame 0 on: the lent words have it. hpa = base + bytes 4096 times the frame's number.
@@ -43,16 +44,19 @@
  *   - For x86-64 alone, by the System V ABI. On another processor it links into programs for x86-64 only.
  *   - It has no data of its own. Two threads may ask at once on two models, never on one.
  *   - It allocates nothing, makes no system call, and needs two functions of the C library: memset and memcpy.
- *   - A call takes at most bytes 4096 of stack.
- *   - Every call but reset reads all words of `frames` and all entries of the blocks in use, for answer 13. Its time
- *     grows in a straight line with these, whatever the call. Reset writes every word. docs/COST.md has figures.
+ *   - A call takes at most bytes 4096 of stack, and so does a run's beginning.
+ *   - Every call by itself, but reset, reads all words of `frames` and all entries of the blocks in use, for answer 13.
+ *     Its time grows in a straight line with these, whatever the call. A run reads them once, at its beginning: within
+ *     it a call's time does not grow with the frames, the records or the tables in use. Only create and cachewb go over
+ *     the records, septadd over the words of `stock`, and reset writes every word. docs/COST.md has figures.
  *
  * What the caller owes. All else is judged: any contents and any lengths may be lent, and answer 13 refuses what is out
  * of range.
  *   - No pointer is null, not even one with words 0.
  *   - Each pointer is aligned for its type, and as many words as its length says may be read and written there.
  *   - The four arrays and the gauge do not overlap, and nobody else touches them during the call.
- *   - The gauge's lamp holds byte 0 or byte 1, as every bool that was assigned does.
+ *   - The gauge's lamp holds byte 0 or byte 1, as every bool that was assigned does. So do the bools of a run.
+ *   - From a run's beginning to its end nobody else touches the tables: see reefnettle_begin.
  */
 #ifndef REEFNETTLE_H
 #define REEFNETTLE_H
@@ -67,7 +71,8 @@ extern "C" {
 
 /* What reefnettle_version answers in an archive that fits this header. The number goes up whenever a struct, a number
  * or the layout of a lent word changes so that a header and an archive no longer fit. A new call alone doesn't move it:
- * an archive that lacks the call answers REEFNETTLE_ANSWER_UNREADABLE. */
+ * an archive that lacks the call answers REEFNETTLE_ANSWER_UNREADABLE. Nor does a new function: a program that asks it
+ * doesn't link with an archive that lacks it. */
 #define REEFNETTLE_VERSION 3
 
 /* ---- Limits. Both ends belong to each range. ---- */
@@ -204,6 +209,20 @@ typedef struct {
     reefnettle_hpa hpa;   /* bytes 0 if the entry is FREE */
 } reefnettle_answer;
 
+/* What a run knows of its tables. It is the library's to fill: keep it as it was given. */
+typedef struct {
+    reefnettle_gauge gauge; /* after the run's last accepted call */
+    uint64_t used;          /* frames that aren't NDA; 0 where the tables are out of range */
+    bool lent;              /* whether the tables are in range */
+    bool marked;            /* whether the gauge's marks are, too */
+} reefnettle_run;
+
+/* What a request of a run gives. */
+typedef struct {
+    reefnettle_answer answer;
+    reefnettle_run run; /* what the run knows then, for its next request */
+} reefnettle_next_answer;
+
 /* ---- Numbers ---- */
 
 /* Any other number of a call is answered with REEFNETTLE_ANSWER_UNREADABLE. */
@@ -312,7 +331,7 @@ static inline const char *reefnettle_answer_text(uint64_t number)
     return number < sizeof texts / sizeof texts[0] ? texts[number] : "there is no such answer";
 }
 
-/* ---- The library's two functions ---- */
+/* ---- The library's four functions ---- */
 
 /* The archive's number, to compare with REEFNETTLE_VERSION. */
 uint64_t reefnettle_version(void);
@@ -330,6 +349,33 @@ reefnettle_answer reefnettle_ask(reefnettle_hpa base,
                                  uint64_t *stock, size_t stock_words,
                                  uint32_t *entries, size_t entries_words,
                                  reefnettle_gauge *gauge, reefnettle_request request);
+
+/* Begins a run of calls: what answer 13 asks of the tables and the gauge is checked here, once for them all. Nothing
+ * lent is changed. Every answer, table word and gauge of a run is what single calls of reefnettle_ask give; this is
+ * proved. So where the check fails, each call that there is answers 13, up to an accepted reset, or an accepted setting
+ * of marks if these alone are out of range.
+ *
+ * What the caller owes, beside what it owes at every call:
+ *   - Until the run's end nobody else writes the tables: no other run, no reefnettle_ask, no word by hand.
+ *   - A run is for one model: base, arrays and lengths stay the same.
+ *   - Each request is given what the one before it gave, the first what the beginning gave.
+ *   - The gauge goes along in the run. The model's own is stale, until it is given the run's at the end.
+ * A run that the caller makes up, or that knows other tables, gets answers that single calls may not give, and tables
+ * out of range may be changed. Even then no byte outside of the arrays is touched. */
+reefnettle_run reefnettle_begin(reefnettle_hpa base,
+                                const uint64_t *frames, size_t frames_words,
+                                const uint64_t *domains, size_t domains_words,
+                                const uint64_t *stock, size_t stock_words,
+                                const uint32_t *entries, size_t entries_words,
+                                reefnettle_gauge gauge);
+
+/* Asks the next call of a run, any call. */
+reefnettle_next_answer reefnettle_next(reefnettle_hpa base,
+                                       uint64_t *frames, size_t frames_words,
+                                       uint64_t *domains, size_t domains_words,
+                                       uint64_t *stock, size_t stock_words,
+                                       uint32_t *entries, size_t entries_words,
+                                       reefnettle_run known, reefnettle_request request);
 
 /* ---- One function a call. D is the hpa of the domain's TDR, F that of a frame. ---- */
 
@@ -582,6 +628,45 @@ static inline reefnettle_answer reefnettle_readentry(const reefnettle_model *mod
                                                      reefnettle_gpa gpa, reefnettle_level level)
 {
     return reefnettle_ask_entry(model, REEFNETTLE_CALL_READENTRY, domain, gpa, level);
+}
+
+/* ---- A run of calls on a model, to rehearse or replay a long list of them ----
+ *
+ *     reefnettle_run run = reefnettle_run_begin(&model);
+ *     for (size_t call = 0; call < calls; call++)
+ *         answers[call] = reefnettle_run_ask(&model, &run, requests[call]);
+ *     reefnettle_run_end(&model, &run);
+ *
+ * In between nobody else touches the model's tables, and its gauge is stale: see reefnettle_begin. */
+
+static inline reefnettle_run reefnettle_run_begin(const reefnettle_model *model)
+{
+    return reefnettle_begin(model->base,
+                            model->frames, model->frames_words,
+                            model->domains, model->domains_words,
+                            model->stock, model->stock_words,
+                            model->entries, model->entries_words,
+                            *model->gauge);
+}
+
+/* Asks the run's next call, and moves the run on. The model is the one that the run began on. */
+static inline reefnettle_answer reefnettle_run_ask(const reefnettle_model *model, reefnettle_run *run,
+                                                   reefnettle_request request)
+{
+    const reefnettle_next_answer next = reefnettle_next(model->base,
+                                                        model->frames, model->frames_words,
+                                                        model->domains, model->domains_words,
+                                                        model->stock, model->stock_words,
+                                                        model->entries, model->entries_words,
+                                                        *run, request);
+    *run = next.run;
+    return next.answer;
+}
+
+/* Hands the run's gauge back to the model, which may then be asked by itself again. */
+static inline void reefnettle_run_end(const reefnettle_model *model, const reefnettle_run *run)
+{
+    *model->gauge = run->gauge;
 }
 
 /* ---- The lent words, to fill the tables from a running machine and to read them ----

@@ -3,6 +3,7 @@
 use std::error::Error;
 use std::fmt::{self, Display, Formatter};
 
+use crate::call::Call;
 use crate::raw;
 use crate::states::{EntryState, FrameType};
 use crate::units::{Hpa, Level};
@@ -226,6 +227,16 @@ impl raw::Answer {
             14 => Refusal::Contradiction,
             15 => Refusal::Unreadable,
             number => unreachable!("the library has no answer {number}"),
+        })
+    }
+
+    /// What a call with this answer comes to.
+    pub(crate) fn reply(self, call: &Call) -> Result<Reply, Refusal> {
+        let answer = self.judged()?;
+        Ok(match call {
+            Call::ReadPage { .. } => Reply::Page(answer.page()),
+            Call::ReadEntry { .. } => Reply::Entry(answer.entry()),
+            _ => Reply::Done,
         })
     }
 

@@ -18,6 +18,7 @@
 //!
 //! * [`Model`] has a method for each call; [`Model::ask`] takes any [`Call`].
 //! * [`Model::rehearse`] tries a plan of calls on a clone.
+//! * [`Model::run`] asks many calls in a row at less cost.
 //! * [`Refusal`] says why a call is refused, by the paper's numbers 1 to 15.
 //! * [`Model::import`] takes the tables of a running machine, [`Model::parts`]
 //!   gives them out: as words, or as [`FrameWord`], [`DomainRecord`] and
@@ -53,6 +54,7 @@ mod model;
 mod parts;
 pub mod raw;
 mod rehearsal;
+mod run;
 mod sizes;
 mod states;
 mod units;
@@ -65,6 +67,7 @@ pub use model::Model;
 pub use parts::{Block, Parts};
 pub use raw::{version, VERSION};
 pub use rehearsal::{Refused, Rehearsal};
+pub use run::Run;
 pub use sizes::{Sizes, CONTROL_PAGES, RECORD_WORDS, TABLE_ENTRIES};
 pub use states::{EntryState, FrameType, Lifecycle, OpState};
 pub use units::{Epoch, Frame, Gpa, Hpa, Key, Level, Record, Table, Window, FRAME_BYTES};

@@ -4,7 +4,8 @@ use crate::answer::{Entry, Page, Refusal, Reply};
 use crate::call::Call;
 use crate::gauge::Gauge;
 use crate::parts::Parts;
-use crate::raw::{self, number, Answer, Request};
+use crate::raw::{self, Answer, Request};
+use crate::run::Run;
 use crate::sizes::Sizes;
 use crate::units::{Gpa, Hpa, Key, Level, Window};
 
@@ -16,6 +17,7 @@ use crate::units::{Gpa, Hpa, Key, Level, Window};
 /// accepted one, even one that reads, stores the fill and may move the lamp.
 ///
 /// A clone is a model of its own. [`Model::rehearse`] asks a whole plan of one.
+/// Many calls in a row cost less in a run, by [`Model::run`].
 ///
 /// ```
 /// use reefnettle::{FrameType, Frame, Key, Model, Refusal, Sizes, Window};
@@ -91,10 +93,12 @@ impl Model {
     /// # Ok::<(), Refusal>(())
     /// ```
     pub fn import(parts: Parts) -> Result<Model, Refusal> {
-        let model = Model::from_parts(parts);
-        // An accepted readpage stores the fill, so a copy is asked.
-        model.clone().readpage(model.lent.base)?;
-        Ok(model)
+        // What a run checks at its beginning is what answer 13 refuses.
+        let known = raw::begin(&parts);
+        match known.lent && known.marked {
+            true => Ok(Model::from_parts(parts)),
+            false => Err(Refusal::OutOfRange),
+        }
     }
 
     /// A model of any contents and any lengths. They aren't judged here, as they
@@ -171,47 +175,35 @@ impl Model {
     /// # Ok::<(), reefnettle::Refusal>(())
     /// ```
     pub fn ask(&mut self, call: &Call) -> Result<Reply, Refusal> {
-        match *call {
-            Call::Reset => self.reset()?,
-            Call::SetMarks { raise, clear } => self.set_marks(raise, clear)?,
-            Call::Create { frame, key } => self.create(frame, key)?,
-            Call::KeyConfig { domain } => self.keyconfig(domain)?,
-            Call::AddCx { domain, frame } => self.addcx(domain, frame)?,
-            Call::Init { domain } => self.init(domain)?,
-            Call::SeptAdd {
-                domain,
-                gpa,
-                level,
-                frame,
-            } => self.septadd(domain, gpa, level, frame)?,
-            Call::PageAdd { domain, gpa, frame } => self.pageadd(domain, gpa, frame)?,
-            Call::Finalize { domain } => self.finalize(domain)?,
-            Call::PageAug { domain, gpa, frame } => self.pageaug(domain, gpa, frame)?,
-            Call::Block { domain, gpa, level } => self.block(domain, gpa, level)?,
-            Call::Track { domain } => self.track(domain)?,
-            Call::Unblock { domain, gpa, level } => self.unblock(domain, gpa, level)?,
-            Call::PageRemove { domain, gpa } => self.pageremove(domain, gpa)?,
-            Call::SeptRemove { domain, gpa, level } => self.septremove(domain, gpa, level)?,
-            Call::FlushDone { domain } => self.flushdone(domain)?,
-            Call::CacheWb => self.cachewb()?,
-            Call::KeyFree { domain } => self.keyfree(domain)?,
-            Call::Reclaim { frame } => self.reclaim(frame)?,
-            Call::ReadPage { frame } => return self.readpage(frame).map(Reply::Page),
-            Call::ReadEntry { domain, gpa, level } => {
-                return self.readentry(domain, gpa, level).map(Reply::Entry);
-            }
-        }
-        Ok(Reply::Done)
+        self.ask_raw(call.into()).reply(call)
+    }
+
+    /// Begins a run: calls that come to the same as here, and cost less. Each call
+    /// by itself looks at all that is stored, for [`Refusal::OutOfRange`]; a run
+    /// does so once, here. Until it is dropped nobody else has the model.
+    ///
+    /// ```
+    /// use reefnettle::{Call, Key, Model, Refusal, Sizes, Window};
+    ///
+    /// let mut model = Model::fresh(Window::BASE_LEAST, Sizes::PROGRAM)?;
+    /// let domain = Window::BASE_LEAST;
+    /// let mut run = model.run();
+    /// run.ask(&Call::Create { frame: domain, key: Key(32) })?;
+    /// run.ask(&Call::KeyConfig { domain })?;
+    /// assert_eq!(run.ask(&Call::Init { domain }), Err(Refusal::ControlPages));
+    /// run.end();
+    /// assert_eq!(model.gauge().fill, 1.0 / 1024.0);
+    /// # Ok::<(), Refusal>(())
+    /// ```
+    pub fn run(&mut self) -> Run<'_> {
+        Run::begin(&mut self.lent)
     }
 
     /// Makes all frames NDA, all stock unused and every stored number zero; the
     /// raise mark becomes 1, the clear mark 0. It reads nothing stored, so it is
     /// refused for sizes and base alone.
     pub fn reset(&mut self) -> Result<(), Refusal> {
-        self.accept(Request {
-            call: number::RESET,
-            ..Request::default()
-        })
+        self.accept(Call::Reset)
     }
 
     /// Sets the gauge's marks, and lights the lamp exactly if the fill is at or
@@ -226,44 +218,29 @@ impl Model {
     /// # Ok::<(), Refusal>(())
     /// ```
     pub fn set_marks(&mut self, raise: f64, clear: f64) -> Result<(), Refusal> {
-        self.accept(Request {
-            call: number::SET_MARKS,
-            raise,
-            clear,
-            ..Request::default()
-        })
+        self.accept(Call::SetMarks { raise, clear })
     }
 
     /// Makes an NDA frame the TDR of a new domain, with a key that no domain
     /// before teardown has.
     pub fn create(&mut self, frame: Hpa, key: Key) -> Result<(), Refusal> {
-        self.accept(Request {
-            call: number::CREATE,
-            frame,
-            key,
-            ..Request::default()
-        })
+        self.accept(Call::Create { frame, key })
     }
 
     /// Configures the key of a domain that has one assigned.
     pub fn keyconfig(&mut self, domain: Hpa) -> Result<(), Refusal> {
-        self.accept_on_domain(number::KEYCONFIG, domain)
+        self.accept(Call::KeyConfig { domain })
     }
 
     /// Makes an NDA frame a control page of a domain with configured keys, up to
     /// the fourth.
     pub fn addcx(&mut self, domain: Hpa, frame: Hpa) -> Result<(), Refusal> {
-        self.accept(Request {
-            call: number::ADDCX,
-            domain,
-            frame,
-            ..Request::default()
-        })
+        self.accept(Call::AddCx { domain, frame })
     }
 
     /// Initializes a domain with four control pages.
     pub fn init(&mut self, domain: Hpa) -> Result<(), Refusal> {
-        self.accept_on_domain(number::INIT, domain)
+        self.accept(Call::Init { domain })
     }
 
     /// Makes an NDA frame a Secure EPT table of a live domain, at level 1 to 3;
@@ -275,80 +252,61 @@ impl Model {
         level: Level,
         frame: Hpa,
     ) -> Result<(), Refusal> {
-        self.accept(Request {
-            call: number::SEPTADD,
+        self.accept(Call::SeptAdd {
             domain,
             gpa,
             level,
             frame,
-            ..Request::default()
         })
     }
 
     /// Makes an NDA frame a page of an initialized domain; the FREE entry at
     /// level 0 becomes MAPPED.
     pub fn pageadd(&mut self, domain: Hpa, gpa: Gpa, frame: Hpa) -> Result<(), Refusal> {
-        self.accept(Request {
-            call: number::PAGEADD,
-            domain,
-            gpa,
-            frame,
-            ..Request::default()
-        })
+        self.accept(Call::PageAdd { domain, gpa, frame })
     }
 
     /// Makes an initialized domain runnable.
     pub fn finalize(&mut self, domain: Hpa) -> Result<(), Refusal> {
-        self.accept_on_domain(number::FINALIZE, domain)
+        self.accept(Call::Finalize { domain })
     }
 
     /// Makes an NDA frame a page of a runnable domain; the FREE entry at level 0
     /// becomes PENDING.
     pub fn pageaug(&mut self, domain: Hpa, gpa: Gpa, frame: Hpa) -> Result<(), Refusal> {
-        self.accept(Request {
-            call: number::PAGEAUG,
-            domain,
-            gpa,
-            frame,
-            ..Request::default()
-        })
+        self.accept(Call::PageAug { domain, gpa, frame })
     }
 
     /// Blocks an entry that is NL_MAPPED, MAPPED or PENDING, at level 0 to 3; its
     /// frame notes the domain's epoch.
     pub fn block(&mut self, domain: Hpa, gpa: Gpa, level: Level) -> Result<(), Refusal> {
-        self.accept_on_entry(number::BLOCK, domain, gpa, level)
+        self.accept(Call::Block { domain, gpa, level })
     }
 
     /// Moves the epoch of a live domain on. What was blocked before is then
     /// tracked; before finalize it is so at once.
     pub fn track(&mut self, domain: Hpa) -> Result<(), Refusal> {
-        self.accept_on_domain(number::TRACK, domain)
+        self.accept(Call::Track { domain })
     }
 
     /// Unblocks a blocked and tracked entry, at level 0 to 3.
     pub fn unblock(&mut self, domain: Hpa, gpa: Gpa, level: Level) -> Result<(), Refusal> {
-        self.accept_on_entry(number::UNBLOCK, domain, gpa, level)
+        self.accept(Call::Unblock { domain, gpa, level })
     }
 
     /// Frees a blocked and tracked page.
     pub fn pageremove(&mut self, domain: Hpa, gpa: Gpa) -> Result<(), Refusal> {
-        self.accept(Request {
-            call: number::PAGEREMOVE,
-            domain,
-            gpa,
-            ..Request::default()
-        })
+        self.accept(Call::PageRemove { domain, gpa })
     }
 
     /// Frees a blocked, tracked and empty Secure EPT table, at level 1 to 3.
     pub fn septremove(&mut self, domain: Hpa, gpa: Gpa, level: Level) -> Result<(), Refusal> {
-        self.accept_on_entry(number::SEPTREMOVE, domain, gpa, level)
+        self.accept(Call::SeptRemove { domain, gpa, level })
     }
 
     /// Blocks a domain for good. It keeps its key.
     pub fn flushdone(&mut self, domain: Hpa) -> Result<(), Refusal> {
-        self.accept_on_domain(number::FLUSHDONE, domain)
+        self.accept(Call::FlushDone { domain })
     }
 
     /// Writes the caches back: every blocked domain becomes blocked and written
@@ -369,35 +327,23 @@ impl Model {
     /// # Ok::<(), Refusal>(())
     /// ```
     pub fn cachewb(&mut self) -> Result<(), Refusal> {
-        self.accept(Request {
-            call: number::CACHEWB,
-            ..Request::default()
-        })
+        self.accept(Call::CacheWb)
     }
 
     /// Frees the key of a domain that is blocked and written back, which is then
     /// in teardown.
     pub fn keyfree(&mut self, domain: Hpa) -> Result<(), Refusal> {
-        self.accept_on_domain(number::KEYFREE, domain)
+        self.accept(Call::KeyFree { domain })
     }
 
     /// Frees a frame of a domain in teardown, the TDR itself last of all.
     pub fn reclaim(&mut self, frame: Hpa) -> Result<(), Refusal> {
-        self.accept(Request {
-            call: number::RECLAIM,
-            frame,
-            ..Request::default()
-        })
+        self.accept(Call::Reclaim { frame })
     }
 
     /// Reads what a frame is, and who owns it.
     pub fn readpage(&mut self, frame: Hpa) -> Result<Page, Refusal> {
-        let request = Request {
-            call: number::READPAGE,
-            frame,
-            ..Request::default()
-        };
-        self.ask_raw(request).judged().map(Answer::page)
+        self.judged(Call::ReadPage { frame }).map(Answer::page)
     }
 
     /// Reads an entry of a live domain, at level 0 to 3.
@@ -421,39 +367,15 @@ impl Model {
     /// # Ok::<(), Refusal>(())
     /// ```
     pub fn readentry(&mut self, domain: Hpa, gpa: Gpa, level: Level) -> Result<Entry, Refusal> {
-        let request = on_entry(number::READENTRY, domain, gpa, level);
-        self.ask_raw(request).judged().map(Answer::entry)
+        let call = Call::ReadEntry { domain, gpa, level };
+        self.judged(call).map(Answer::entry)
     }
 
-    fn accept(&mut self, request: Request) -> Result<(), Refusal> {
-        self.ask_raw(request).judged().map(|_| ())
+    fn judged(&mut self, call: Call) -> Result<Answer, Refusal> {
+        self.ask_raw(Request::from(&call)).judged()
     }
 
-    fn accept_on_domain(&mut self, call: u64, domain: Hpa) -> Result<(), Refusal> {
-        self.accept(Request {
-            call,
-            domain,
-            ..Request::default()
-        })
-    }
-
-    fn accept_on_entry(
-        &mut self,
-        call: u64,
-        domain: Hpa,
-        gpa: Gpa,
-        level: Level,
-    ) -> Result<(), Refusal> {
-        self.accept(on_entry(call, domain, gpa, level))
-    }
-}
-
-fn on_entry(call: u64, domain: Hpa, gpa: Gpa, level: Level) -> Request {
-    Request {
-        call,
-        domain,
-        gpa,
-        level,
-        ..Request::default()
+    fn accept(&mut self, call: Call) -> Result<(), Refusal> {
+        self.judged(call).map(|_| ())
     }
 }

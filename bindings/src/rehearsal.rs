@@ -47,7 +47,8 @@ impl Error for Refused {}
 
 impl Model {
     /// Asks a plan of a clone, call by call, up to the first that is refused. The
-    /// model itself stays as it is.
+    /// model itself stays as it is. The plan is one [`Run`](crate::Run), so all
+    /// that is stored is checked once, however long the plan is.
     ///
     /// ```
     /// use reefnettle::{Call, Hpa, Key, Model, Refusal, Sizes, Window};
@@ -69,8 +70,9 @@ impl Model {
         plan: impl IntoIterator<Item = &'a Call>,
     ) -> Result<Rehearsal, Refused> {
         let mut model = self.clone();
+        let mut run = model.run();
         let ask = |(index, call): (usize, &Call)| {
-            model.ask(call).map_err(|refusal| Refused {
+            run.ask(call).map_err(|refusal| Refused {
                 index,
                 call: *call,
                 refusal,

@@ -65,6 +65,38 @@ fn a_refused_call_is_named_and_the_model_left() {
 }
 
 #[test]
+fn a_plan_may_set_marks_and_begin_afresh() {
+    let marks = Call::SetMarks {
+        raise: 2.0 / 1024.0,
+        clear: 0.0,
+    };
+    let mut calls = vec![marks];
+    calls.extend(plan(&GOOD));
+    calls.push(Call::Reset);
+    calls.extend(plan(&GOOD[..1]));
+    let rehearsal = fresh().rehearse(&calls).unwrap();
+    let mut asked = fresh();
+    for call in &calls {
+        asked.ask(call).unwrap();
+    }
+    assert_eq!(rehearsal.model, asked);
+    assert_eq!(rehearsal.replies.len(), calls.len());
+}
+
+#[test]
+fn what_is_out_of_range_is_refused_up_to_a_reset() {
+    let mut parts = fresh().into_parts();
+    parts.frames[7] = 5; // there is no type 5
+    let model = Model::from_parts(parts);
+    let refused = model.rehearse(&plan(&GOOD)).unwrap_err();
+    let out_of_range = Refusal::OutOfRange;
+    assert_eq!((refused.index, refused.refusal), (0, out_of_range));
+    let mut calls = vec![Call::Reset];
+    calls.extend(plan(&GOOD));
+    assert!(model.rehearse(&calls).is_ok());
+}
+
+#[test]
 fn an_empty_plan_comes_to_the_model_itself() {
     let rehearsal = fresh().rehearse(&[]).unwrap();
     assert_eq!((rehearsal.model, rehearsal.replies), (fresh(), vec![]));

@@ -1,13 +1,20 @@
-/* What a call costs: its time on tables of four sizes, with no block in use and with all, and the most stack that any
- * call takes. cost CALLS says over how many calls each time is taken. It fails if a call takes more stack than the header
- * says. cost CALLS FRAMES RECORDS TABLES none (or all) makes so many calls on tables of one size and prints nothing:
- * bench/cost counts their instructions so. */
+/* What a call costs, by itself and in a run: its time on tables of four sizes, with no block in use and with all, and the
+ * most stack that any call takes. cost CALLS says over how many calls each time is taken. It fails if a call takes more
+ * stack than the header says. cost CALLS FRAMES RECORDS TABLES none (or all) makes so many calls on tables of one size
+ * and prints nothing; with "run" as the last word they are a run. bench/cost counts their instructions so. */
 #include <stdio.h>
 #include <stdlib.h>
 #include <string.h>
 #include <time.h>
 
 #include "reefnettle.h"
+
+#ifdef WITHOUT_RUNS /* bench/cost may bring an earlier header, whose only runs are single calls */
+typedef char reefnettle_run;
+#define reefnettle_run_begin(model) 0
+#define reefnettle_run_ask(model, run, request) reefnettle_ask_model(model, request)
+#define reefnettle_run_end(model, run) (void)run
+#endif
 
 enum { STACK_BYTES = 1 << 16, STACK_BYTES_PROMISED = 4096, PAINT = 0xa5 };
 
@@ -60,11 +67,23 @@ static void make_calls(const reefnettle_model *model, long calls)
         must(reefnettle_readpage(model, model->base));
 }
 
-/* Microseconds of one call. */
-static double time_call(const reefnettle_model *model, long calls)
+static void make_run(const reefnettle_model *model, long calls)
+{
+    reefnettle_request readpage = reefnettle_request_of(REEFNETTLE_CALL_READPAGE);
+    reefnettle_run run = reefnettle_run_begin(model);
+    readpage.frame = model->base;
+    for (long call = 0; call < calls; call++)
+        must(reefnettle_run_ask(model, &run, readpage));
+    reefnettle_run_end(model, &run);
+}
+
+typedef void maker(const reefnettle_model *model, long calls);
+
+/* Microseconds of one call. A run's beginning is shared out among its calls. */
+static double time_call(maker *make, const reefnettle_model *model, long calls)
 {
     const clock_t begin = clock();
-    make_calls(model, calls);
+    make(model, calls);
     return 1e6 * (double)(clock() - begin) / CLOCKS_PER_SEC / (double)calls;
 }
 
@@ -72,10 +91,12 @@ static void time_sizes(size_t window_frames, size_t records, size_t tables, long
 {
     const reefnettle_model model = lend(window_frames, records, tables);
     must(reefnettle_reset(&model));
-    printf("frames %zu, records %zu, tables %zu: microseconds %.2f with no block in use", window_frames, records, tables,
-           time_call(&model, calls));
+    printf("frames %zu, records %zu, tables %zu: ", window_frames, records, tables);
+    printf("microseconds %.2f with no block in use, ", time_call(make_calls, &model, calls));
+    printf("in a run %.2f; ", time_call(make_run, &model, calls));
     use_all(&model);
-    printf(", microseconds %.2f with all\n", time_call(&model, calls));
+    printf("microseconds %.2f with all, ", time_call(make_calls, &model, calls));
+    printf("in a run %.2f\n", time_call(make_run, &model, calls));
 }
 
 #define HPA(frame) {REEFNETTLE_BASE_BYTES_LEAST + REEFNETTLE_FRAME_BYTES * UINT64_C(frame)}
@@ -125,62 +146,85 @@ static reefnettle_model asked;
 static reefnettle_request request;
 static reefnettle_answer answer;
 
+typedef void deed(void);
+
 static void ask(void)
 {
     answer = reefnettle_ask_model(&asked, request);
 }
 
-static void ask_on_own_stack(void)
+static void do_on_own_stack(deed *what)
 {
     __asm__ volatile("movq %%rsp, %%rbx\n\tmovq %0, %%rsp\n\tcall *%1\n\tmovq %%rbx, %%rsp"
                      :
-                     : "r"(stack + sizeof stack), "r"(ask)
+                     : "r"(stack + sizeof stack), "r"(what)
                      : "rax", "rbx", "rcx", "rdx", "rsi", "rdi", "r8", "r9", "r10", "r11", "cc", "memory", "xmm0", "xmm1",
                        "xmm2", "xmm3", "xmm4", "xmm5", "xmm6", "xmm7", "xmm8", "xmm9", "xmm10", "xmm11", "xmm12", "xmm13",
                        "xmm14", "xmm15");
 }
 
-/* How far down a painted stack the paint is gone after one call. The frame of ask counts too. */
-static size_t stack_bytes_of(reefnettle_request next)
+/* How far down a painted stack the paint is gone after a deed. The frame of the deed's own function counts too. */
+static size_t stack_bytes_of(deed *what)
 {
     size_t untouched = 0;
-    request = next;
     memset(stack, PAINT, sizeof stack);
-    ask_on_own_stack();
+    do_on_own_stack(what);
     while (untouched < sizeof stack && stack[untouched] == PAINT)
         untouched++;
-    must(answer);
     return sizeof stack - untouched;
 }
 
-/* The first life goes unmeasured: it may bind memset and memcpy, which takes stack of its own. */
-static size_t most_stack_bytes(void)
+/* The most of the domain's life, each call asked by the deed. */
+static size_t stack_bytes_of_life(deed *by)
 {
     size_t most = 0;
-    asked = lend(REEFNETTLE_FRAMES_LEAST, REEFNETTLE_RECORDS_LEAST, REEFNETTLE_TABLES_LEAST);
-    for (size_t step = 0; step < sizeof life / sizeof life[0]; step++)
-        must(reefnettle_ask_model(&asked, life[step]));
     for (size_t step = 0; step < sizeof life / sizeof life[0]; step++) {
-        const size_t bytes = stack_bytes_of(life[step]);
+        size_t bytes;
+        request = life[step];
+        bytes = stack_bytes_of(by);
+        must(answer);
         most = bytes > most ? bytes : most;
     }
     return most;
 }
 
+static reefnettle_run known;
+
+static void begin(void)
+{
+    known = reefnettle_run_begin(&asked);
+}
+
+static void next(void)
+{
+    answer = reefnettle_run_ask(&asked, &known, request);
+}
+
+static size_t stack_bytes_of_run(void)
+{
+    const size_t beginning = stack_bytes_of(begin), calls = stack_bytes_of_life(next);
+    return beginning > calls ? beginning : calls;
+}
+
 static void time_all_sizes(long calls)
 {
-    time_sizes(512, 1, 4, calls);
+    time_sizes(REEFNETTLE_FRAMES_LEAST, REEFNETTLE_RECORDS_LEAST, REEFNETTLE_TABLES_LEAST, calls);
     time_sizes(1024, 4, 12, calls);
     time_sizes(4096, 16, 64, calls);
     time_sizes(REEFNETTLE_FRAMES_MOST, REEFNETTLE_RECORDS_MOST, REEFNETTLE_TABLES_MOST, calls);
 }
 
-/* Whether a call keeps to the stack that the header promises. */
+/* Whether each call keeps to the stack that the header promises. A life unmeasured comes first: it may bind the C
+ * library's functions, which takes stack of its own. */
 static bool tell_stack(void)
 {
-    const size_t bytes = most_stack_bytes();
-    printf("stack of one call: bytes %zu at most\n", bytes);
-    return bytes <= STACK_BYTES_PROMISED;
+    size_t alone, in_run;
+    asked = lend(REEFNETTLE_FRAMES_LEAST, REEFNETTLE_RECORDS_LEAST, REEFNETTLE_TABLES_LEAST);
+    stack_bytes_of_life(ask);
+    alone = stack_bytes_of_life(ask);
+    in_run = stack_bytes_of_run();
+    printf("stack of one call: bytes %zu at most, in a run bytes %zu at most\n", alone, in_run);
+    return alone <= STACK_BYTES_PROMISED && in_run <= STACK_BYTES_PROMISED;
 }
 
 static size_t number(const char *digits)
@@ -188,13 +232,13 @@ static size_t number(const char *digits)
     return (size_t)strtoul(digits, NULL, 10);
 }
 
-static void call_quietly(long calls, char **sizes, bool all)
+static void call_quietly(maker *make, long calls, char **sizes, bool all)
 {
     const reefnettle_model model = lend(number(sizes[0]), number(sizes[1]), number(sizes[2]));
     must(reefnettle_reset(&model));
     if (all)
         use_all(&model);
-    make_calls(&model, calls);
+    make(&model, calls);
 }
 
 int main(int words, char **word)
@@ -204,10 +248,10 @@ int main(int words, char **word)
         time_all_sizes(calls);
         return tell_stack() ? 0 : 1;
     }
-    if (calls > 0 && words == 6) {
-        call_quietly(calls, word + 2, strcmp(word[5], "all") == 0);
+    if (calls > 0 && (words == 6 || words == 7)) {
+        call_quietly(words == 7 ? make_run : make_calls, calls, word + 2, strcmp(word[5], "all") == 0);
         return 0;
     }
-    fprintf(stderr, "usage: cost CALLS [FRAMES RECORDS TABLES none|all], at least calls 1\n");
+    fprintf(stderr, "usage: cost CALLS [FRAMES RECORDS TABLES none|all [run]], at least calls 1\n");
     return 2;
 }

@@ -35,6 +35,16 @@ AT(reefnettle_answer, level, 24);
 AT(reefnettle_answer, state, 32);
 AT(reefnettle_answer, hpa, 40);
 
+BYTES(reefnettle_run, 48);
+AT(reefnettle_run, gauge, 0);
+AT(reefnettle_run, used, 32);
+AT(reefnettle_run, lent, 40);
+AT(reefnettle_run, marked, 41);
+
+BYTES(reefnettle_next_answer, 96);
+AT(reefnettle_next_answer, answer, 0);
+AT(reefnettle_next_answer, run, 48);
+
 _Static_assert(REEFNETTLE_LENT_BYTES(512, 1, 4) == 14384, "least sizes");
 _Static_assert(REEFNETTLE_LENT_BYTES(1024, 4, 12) == 41128, "the program's sizes");
 _Static_assert(REEFNETTLE_LENT_BYTES(REEFNETTLE_FRAMES_MOST, REEFNETTLE_RECORDS_MOST, REEFNETTLE_TABLES_MOST) == 789032,

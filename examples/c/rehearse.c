@@ -59,18 +59,22 @@ static bool same(const lent_tables *a, const lent_tables *b)
            memcmp(&a->gauge, &b->gauge, offsetof(reefnettle_gauge, lamp)) == 0 && a->gauge.lamp == b->gauge.lamp;
 }
 
+/* In one run, so that a long list costs one check of the tables: nobody else touches the copy. After a refusal neither
+ * the copy nor its gauge is looked at again, and the run needs no end. */
 static bool rehearse(const planned_call *calls, size_t number_of_calls)
 {
     copy = real;
     const reefnettle_model model = lend(&copy);
+    reefnettle_run run = reefnettle_run_begin(&model);
     for (size_t call = 0; call < number_of_calls; call++) {
-        const reefnettle_answer answer = reefnettle_ask_model(&model, calls[call].request);
+        const reefnettle_answer answer = reefnettle_run_ask(&model, &run, calls[call].request);
         if (answer.number != REEFNETTLE_ANSWER_ACCEPTED) {
             printf("rehearsal: call %zu, %s: answer %" PRIu64 ", %s\n", call + 1, calls[call].name, answer.number,
                    reefnettle_answer_text(answer.number));
             return false;
         }
     }
+    reefnettle_run_end(&model, &run);
     printf("rehearsal: calls %zu, all accepted\n", number_of_calls);
     return true;
 }

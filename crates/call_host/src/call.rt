@@ -20,7 +20,7 @@ pub struct Reply {
     pub gauge: Gauge,
 }
 
-fn plan_of(
+pub fn plan_of(
     base: Hpa,
     frames: &[u64],
     domains: &[u64],

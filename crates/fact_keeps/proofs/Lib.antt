@@ -13,3 +13,6 @@ pub mod Plans
 pub mod Used
 pub mod Keeps
 pub mod Run
+pub mod AskUsed
+pub mod AskKeeps
+pub mod AskRun

@@ -5,3 +5,4 @@ pub mod Outcomes
 pub mod Doors
 pub mod Fills
 pub mod Tracking
+pub mod DoorRuns

@@ -3,11 +3,13 @@
 
 ghost use Rattle.std.specs.Prelude.{◌≡◌};
 ghost use Rattle.book_ledger.specs.Tables.{lent};
-ghost use Rattle.reefnettle.specs.Door.{handed_out, door_of, version};
+ghost use Rattle.call_run.specs.Runs.{begun_of};
+ghost use Rattle.reefnettle.specs.Door.{handed_out, door_of, told, next_door, version};
 
 use base_calls::Values;
 use base_units::address::Hpa;
 use book_gauge::Gauge;
+use call_run::Run;
 use door_requests::Request;
 
 // Any request on any lent tables and gauge.
@@ -26,6 +28,49 @@ pub fn reefnettle_ask(
     let ask = door_requests::ask_of(r);
     let answer = door_entry::enter(base, frames, domains, stock, entries, g, ask);
     base_calls::values_of(answer)
+}
+
+// What a request of a run gives: the answer's values, and what the run knows after it.
+#[repr(C)]
+#[derive(Clone, Copy)]
+pub struct Next {
+    pub values: Values,
+    pub run: Run,
+}
+
+// A run's beginning: what it knows of the lent tables and gauge.
+pub fn reefnettle_begin(
+    base: Hpa,
+    frames: &[u64],
+    domains: &[u64],
+    stock: &[u64],
+    entries: &[u32],
+    gauge: Gauge,
+) -> Run
+    ensures { result ≡ begun_of base (lent frames.now domains.now stock.now entries.now) gauge }
+{
+    call_run::begin(base, frames, domains, stock, entries, gauge)
+}
+
+// The next request of a run, on tables that nobody else has touched since it began.
+pub fn reefnettle_next(
+    base: Hpa,
+    frames: &mut [u64],
+    domains: &mut [u64],
+    stock: &mut [u64],
+    entries: &mut [u32],
+    known: Run,
+    r: Request,
+) -> Next
+    ensures { told result.values (lent frames.new domains.new stock.new entries.new) result.run
+        ≡ next_door base (lent frames.old domains.old stock.old entries.old) known r }
+{
+    let ask = door_requests::ask_of(r);
+    let n = call_run::next_ask(base, frames, domains, stock, entries, known, ask);
+    let answer = n.answer;
+    let run = n.run;
+    let values = base_calls::values_of(answer);
+    Next { values, run }
 }
 
 // REEFNETTLE_VERSION of the header, for a caller to compare.

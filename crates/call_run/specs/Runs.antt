@@ -1,7 +1,7 @@
 -- Request 11: "A run of calls on tables that nobody else touches in between may check once at its start." What a run knows from that check on, and
 -- what each ask then comes to: answer 13 is read off what is known, and the count of used frames goes along by value.
-use Rattle.base_rules.specs.Basics.{ℕ, ◌+◌, ◌-◌, ◌^◌, min, true, false, List, length, eqb, choose, need, given}
-use Rattle.std.specs.Prelude.{Float}
+use Rattle.std.specs.Prelude.{ℕ, ◌+◌, ◌-◌, ◌^◌, min, true, false, List, length, eqb, Float}
+use Rattle.base_rules.specs.Basics.{choose, need, given}
 use Rattle.base_units.specs.declared.address.Hpa.{Hpa}
 use Rattle.book_gauge.specs.{Marks.marks_ok, Update.after, Update.with_marks, declared.Gauge.Gauge}
 use Rattle.book_ledger.specs.{Codes.NDA, Count.one_used, Count.used_frames, Tables.Tables, declared.words.Frame.Frame}

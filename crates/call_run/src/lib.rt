@@ -1,15 +1,17 @@
 // A run of asks on tables that nobody else touches in between: answer 13's check once, at its beginning, and the count of used frames by value.
+#![tactic(auto)]
+
 ghost use Rattle.std.specs.Prelude.{◌≡◌};
-ghost use Rattle.book_ledger.specs.Tables.{lent};
+ghost use Rattle.book_ledger.specs.{Count.one_used, Tables.lent};
 ghost use Rattle.call_run.specs.Runs.{is_used, counted, used_after, used_by, begun_of, next};
 ghost use Rattle.call_run.specs.Runs.{gauge_with, known_reset, rule_with, marks_with, host_with, next_of};
 
 use base_calls::{Answer, Ask, Call};
-use base_units::address::Hpa;
+use base_units::address::{Hpa, Pfn};
 use book_gauge::Gauge;
 use book_ledger::codes::NDA;
-use book_ledger::count;
 use book_ledger::words::Frame;
+use book_ledger::{count, tables};
 use call_host::{call, setting};
 use call_plan::edit::{FrameEdit, Plan};
 
@@ -41,6 +43,14 @@ fn is_used(f: Frame) -> u64
     1
 }
 
+// As `one_used` of the crate book_ledger, which is private there.
+fn was_used(frames: &[u64], frame: Pfn) -> u64
+    ensures { result ≡ one_used frames.now frame.0 }
+{
+    let f = tables::frame_at(frames, frame);
+    is_used(f)
+}
+
 fn moved(used: u64, was: u64, is: u64) -> u64
     ensures { result ≡ counted used was is }
 {
@@ -60,7 +70,7 @@ fn used_after(frames: &[u64], e: FrameEdit, used: u64) -> u64
     match e {
         FrameEdit::Keep => used,
         FrameEdit::Set(n, f) => {
-            let was = count::one_used(frames, n);
+            let was = was_used(frames, n);
             moved(used, was, is_used(f))
         }
     }
