@@ -3,7 +3,7 @@ use Rattle.base_rules.specs.Basics.{◌≡◌, true, false, List, ℕ, zero, suc
 use Rattle.base_rules.proofs.Facts.{arith, pow-succ', pow_pos, pow_mono, shr-shr, eq-eqb, ne_eqb, by_eq, by_lt, add-zero, zero-add, add_assoc}
 use native.Mathlib.Nat.{div-le_self}
 use lib.Count.{count_trailing_zeros, trailing_le}
-use Rattle.book_stock.specs.declared.bits.Lowest.{Lowest, TheVariants.At, TheVariants.Full}
+use Rattle.book_stock.specs.declared.bits.Lowest.{TheVariants.At, TheVariants.Full}
 use Rattle.book_stock.specs.Bits.{word_bits, word_of, bit_set, in_use, lowest_from}
 use Rattle.book_stock.proofs.Bit.{bit, set_le}
 

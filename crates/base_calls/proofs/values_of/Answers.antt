@@ -1,4 +1,3 @@
-use Rattle.base_rules.proofs.Facts.{rules}
 use Rattle.base_calls.specs.Answers.{values_of}
 use Rattle.base_calls.proofs.values_of.Goals as goal
 

@@ -1,4 +1,4 @@
-use Rattle.base_rules.proofs.Facts.{steps, pow_pos, rules}
+use Rattle.base_rules.proofs.Facts.{steps, pow_pos}
 use Rattle.base_levels.specs.Level.{gpa_fits}
 use Rattle.base_units.proofs.Shifts.{one_shl}
 use Rattle.base_levels.proofs.Levels.{low_below}

@@ -1,4 +1,3 @@
-use Rattle.base_rules.proofs.Facts.{rules}
 use Rattle.base_levels.specs.Level.{index_at}
 use Rattle.base_levels.proofs.Levels.{shift_below}
 use Rattle.base_levels.proofs.index_at.Goals as goal

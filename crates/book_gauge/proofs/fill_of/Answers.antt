@@ -1,6 +1,4 @@
-use Rattle.base_rules.proofs.Facts.{rules}
 use Rattle.book_gauge.proofs.Bits.{filled}
-use Rattle.base_rules.proofs.Facts.{steps}
 use Rattle.book_gauge.proofs.fill_of.Goals as goal
 
 pub returns : goal.returns

@@ -1,4 +1,4 @@
-use Rattle.base_rules.proofs.Facts.{steps, rules}
+use Rattle.base_rules.proofs.Facts.{steps}
 use Rattle.book_gauge.proofs.Marks.{mark_tried}
 use Rattle.book_gauge.proofs.is_mark.Goals as goal
 

@@ -1,4 +1,4 @@
-use Rattle.base_rules.proofs.Facts.{steps, rules}
+use Rattle.base_rules.proofs.Facts.{steps}
 use Rattle.book_gauge.specs.Update.{lamp_after}
 use Rattle.book_gauge.proofs.lamp_after.Goals as goal
 

@@ -1,4 +1,4 @@
-use Rattle.base_rules.proofs.Facts.{steps, rules}
+use Rattle.base_rules.proofs.Facts.{steps}
 use lib.Ieee.{of_bits, neg}
 use Rattle.book_gauge.specs.Marks.{cut_to}
 use Rattle.book_gauge.proofs.mark_count.Goals as goal

@@ -1,4 +1,4 @@
-use Rattle.base_rules.proofs.Facts.{steps, rules}
+use Rattle.base_rules.proofs.Facts.{steps}
 use lib.Ieee.{of_bits}
 use Rattle.book_gauge.specs.Marks.{marks_ok}
 use Rattle.book_gauge.proofs.marks_ok.Goals as goal

@@ -1,4 +1,4 @@
-use Rattle.base_rules.proofs.Facts.{steps, rules}
+use Rattle.base_rules.proofs.Facts.{steps}
 use Rattle.book_range.specs.Range.{entry_ok}
 use Rattle.book_range.proofs.entry_ok.Goals as goal
 

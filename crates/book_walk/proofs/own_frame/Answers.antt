@@ -1,4 +1,4 @@
-use Rattle.base_rules.proofs.Facts.{steps, rules}
+use Rattle.base_rules.proofs.Facts.{steps}
 use Rattle.book_walk.specs.Walk.{own_frame}
 use Rattle.book_walk.proofs.own_frame.Goals as goal
 

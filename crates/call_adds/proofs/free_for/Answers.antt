@@ -1,4 +1,4 @@
-use Rattle.call_plan.proofs.Ons.{ons, rules}
+use Rattle.call_plan.proofs.Ons.{ons}
 use Rattle.call_adds.specs.Adds.{free_for}
 use Rattle.call_adds.proofs.free_for.Goals as goal
 

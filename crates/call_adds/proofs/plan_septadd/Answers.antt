@@ -1,4 +1,4 @@
-use Rattle.call_plan.proofs.Ons.{ons, rules}
+use Rattle.call_plan.proofs.Ons.{ons}
 use Rattle.call_adds.specs.Adds.{septadd_plan}
 use Rattle.call_adds.proofs.plan_septadd.Goals as goal
 

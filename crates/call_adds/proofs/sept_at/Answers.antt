@@ -1,4 +1,4 @@
-use Rattle.call_plan.proofs.Ons.{ons, rules}
+use Rattle.call_plan.proofs.Ons.{ons}
 use Rattle.call_adds.specs.Adds.{add_table_at}
 use Rattle.call_adds.proofs.sept_at.Goals as goal
 

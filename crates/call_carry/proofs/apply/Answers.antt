@@ -1,6 +1,4 @@
-use Rattle.base_rules.proofs.Facts.{rules}
 use Rattle.call_carry.specs.Carry.{applied}
-use Rattle.base_rules.proofs.Facts.{steps}
 use Rattle.call_carry.proofs.apply.Goals as goal
 
 pub returns : goal.returns

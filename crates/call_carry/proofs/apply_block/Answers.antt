@@ -1,6 +1,4 @@
-use Rattle.base_rules.proofs.Facts.{rules}
 use Rattle.call_carry.specs.Carry.{after_block}
-use Rattle.base_rules.proofs.Facts.{steps}
 use Rattle.call_carry.proofs.apply_block.Goals as goal
 
 pub returns-in-Keep : goal.returns-in-Keep

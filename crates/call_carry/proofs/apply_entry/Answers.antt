@@ -1,6 +1,4 @@
-use Rattle.base_rules.proofs.Facts.{rules}
 use Rattle.call_carry.specs.Carry.{after_entry}
-use Rattle.base_rules.proofs.Facts.{steps}
 use Rattle.call_carry.proofs.apply_entry.Goals as goal
 
 pub returns-in-Set : goal.returns-in-Set

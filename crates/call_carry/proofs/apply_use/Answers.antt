@@ -1,6 +1,4 @@
-use Rattle.base_rules.proofs.Facts.{rules}
 use Rattle.call_carry.specs.Carry.{after_use}
-use Rattle.base_rules.proofs.Facts.{steps}
 use Rattle.call_carry.proofs.apply_use.Goals as goal
 
 pub returns-in-Keep : goal.returns-in-Keep

@@ -1,7 +1,6 @@
-use Rattle.base_rules.proofs.Facts.{ap, rules}
+use Rattle.base_rules.proofs.Facts.{ap}
 use Rattle.base_calls.specs.declared.Answer.TheVariants.{Done}
 use Rattle.call_carry.specs.Carry.{carried_out, carried, swept_tables}
-use Rattle.base_rules.proofs.Facts.{steps}
 use Rattle.call_carry.proofs.carry.Goals as goal
 
 pub returns-in-Say : goal.returns-in-Say

@@ -1,4 +1,4 @@
-use Rattle.call_plan.proofs.Ons.{ons, rules}
+use Rattle.call_plan.proofs.Ons.{ons}
 use Rattle.call_carry.specs.Carry.{swept_at}
 use Rattle.call_carry.proofs.sweep_record.Goals as goal
 

@@ -1,6 +1,5 @@
-use Rattle.base_rules.specs.Basics.{◌-◌}
 use Rattle.base_rules.proofs.Facts.{rules}
-use Rattle.call_carry.proofs.Sweeps.{Sweeping, sweeping_none, sweeping_more, sweeping_end}
+use Rattle.call_carry.proofs.Sweeps.{sweeping_none, sweeping_more, sweeping_end}
 use Rattle.call_carry.proofs.sweep_records.Goals as goal
 
 pub loop-rec-init : goal.loop-rec-init

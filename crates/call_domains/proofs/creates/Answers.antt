@@ -1,4 +1,4 @@
-use Rattle.call_plan.proofs.Ons.{ons, rules}
+use Rattle.call_plan.proofs.Ons.{ons}
 use Rattle.call_domains.specs.Domains.{create_at}
 use Rattle.call_domains.proofs.creates.Goals as goal
 

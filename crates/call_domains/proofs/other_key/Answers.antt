@@ -1,4 +1,4 @@
-use Rattle.call_plan.proofs.Ons.{ons, rules}
+use Rattle.call_plan.proofs.Ons.{ons}
 use Rattle.call_domains.specs.Domains.{other_key}
 use Rattle.call_domains.proofs.other_key.Goals as goal
 

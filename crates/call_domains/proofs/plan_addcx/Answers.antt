@@ -1,4 +1,4 @@
-use Rattle.call_plan.proofs.Ons.{ons, rules}
+use Rattle.call_plan.proofs.Ons.{ons}
 use Rattle.call_domains.specs.Domains.{addcx_plan}
 use Rattle.call_domains.proofs.plan_addcx.Goals as goal
 

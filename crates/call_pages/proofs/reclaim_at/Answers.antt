@@ -1,4 +1,4 @@
-use Rattle.call_plan.proofs.Ons.{ons, rules}
+use Rattle.call_plan.proofs.Ons.{ons}
 use Rattle.call_pages.specs.Pages.{reclaim_at}
 use Rattle.call_pages.proofs.reclaim_at.Goals as goal
 

@@ -1,4 +1,4 @@
-use Rattle.call_plan.proofs.Ons.{ons, rules}
+use Rattle.call_plan.proofs.Ons.{ons}
 use Rattle.call_plan.specs.Entries.{is_tracked}
 use Rattle.call_trees.proofs.is_tracked.Goals as goal
 

@@ -1,4 +1,4 @@
-use Rattle.call_plan.proofs.Ons.{ons, rules}
+use Rattle.call_plan.proofs.Ons.{ons}
 use Rattle.call_trees.specs.Trees.{pageremove_plan}
 use Rattle.call_trees.proofs.plan_pageremove.Goals as goal
 

@@ -1,4 +1,4 @@
-use Rattle.call_plan.proofs.Ons.{ons, rules}
+use Rattle.call_plan.proofs.Ons.{ons}
 use Rattle.call_trees.specs.Trees.{septremove_at}
 use Rattle.call_trees.proofs.septremove_at.Goals as goal
 

@@ -1,4 +1,4 @@
-use Rattle.call_plan.proofs.Ons.{ons, rules}
+use Rattle.call_plan.proofs.Ons.{ons}
 use Rattle.call_trees.specs.Trees.{tracked_for}
 use Rattle.call_trees.proofs.tracked_for.Goals as goal
 

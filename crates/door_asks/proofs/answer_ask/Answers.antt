@@ -1,6 +1,4 @@
-use Rattle.base_rules.proofs.Facts.{rules}
 use Rattle.door_asks.specs.Asks.{ask_of}
-use Rattle.base_rules.proofs.Facts.{steps}
 use Rattle.door_asks.proofs.answer_ask.Goals as goal
 
 pub returns-in-Host : goal.returns-in-Host

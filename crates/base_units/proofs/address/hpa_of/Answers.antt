@@ -1,5 +1,5 @@
 use Rattle.base_rules.specs.Basics.{ℕ}
-use Rattle.base_rules.proofs.Facts.{arith, ap, rules}
+use Rattle.base_rules.proofs.Facts.{arith, ap}
 use Rattle.base_units.specs.Address.{hpa_of}
 use Rattle.base_units.proofs.address.hpa_of.Goals as goal
 

@@ -1,4 +1,4 @@
-use Rattle.base_rules.proofs.Facts.{steps, rules}
+use Rattle.base_rules.proofs.Facts.{steps}
 use Rattle.base_units.specs.Limits.{frames_ok}
 use Rattle.base_units.proofs.limits.frames_ok.Goals as goal
 

@@ -1,4 +1,4 @@
-use Rattle.base_rules.proofs.Facts.{steps, arith, rules}
+use Rattle.base_rules.proofs.Facts.{steps}
 use Rattle.book_ledger.specs.Count.{one_used}
 use Rattle.book_ledger.proofs.count.one_used.Goals as goal
 

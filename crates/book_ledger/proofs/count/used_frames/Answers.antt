@@ -1,7 +1,5 @@
-use Rattle.base_rules.specs.Basics.{◌≡◌, ◌≤◌, ◌-◌, ◌+◌, length, sum_from}
-use Rattle.base_rules.proofs.Facts.{sub-zero, zero-add, arith, rules, sum_step, sum_end}
-use Rattle.book_ledger.specs.Count.{one_used, used_frames}
-use Rattle.base_rules.proofs.Facts.{steps}
+use Rattle.base_rules.proofs.Facts.{sub-zero, zero-add, arith, sum_step, sum_end}
+use Rattle.book_ledger.specs.Count.{used_frames}
 use Rattle.book_ledger.proofs.count.used_frames.Goals as goal
 
 pub loop-n-init : goal.loop-n-init

@@ -1,4 +1,4 @@
-use Rattle.base_rules.proofs.Facts.{steps, rules}
+use Rattle.base_rules.proofs.Facts.{steps}
 use Rattle.book_ledger.specs.Sizes.{sizes_ok}
 use Rattle.book_ledger.proofs.sizes.sizes_ok.Goals as goal
 

@@ -1,4 +1,3 @@
-use Rattle.base_rules.proofs.Facts.{rules}
 use Rattle.book_ledger.specs.Sizes.{tables_of}
 use Rattle.base_rules.proofs.Facts.{steps}
 use Rattle.book_ledger.proofs.sizes.tables_of.Goals as goal

@@ -2,7 +2,6 @@ use Rattle.base_rules.specs.Basics.{◌+◌, ◌*◌, ◌%◌}
 use Rattle.base_rules.proofs.Facts.{sym, ap, ◌∙◌, arith, List·getD-eq-default, rules}
 use Rattle.base_units.specs.Limits.{table_entries}
 use Rattle.book_ledger.specs.{Tables.entry_at, Words.entry_from}
-use Rattle.base_rules.proofs.Facts.{steps}
 use Rattle.book_ledger.proofs.tables.entry_at.Goals as goal
 
 pub returns-then-block-entries : goal.returns-then-block-entries

@@ -1,7 +1,6 @@
 use Rattle.base_rules.proofs.Facts.{sym, ◌∙◌, rules}
 use Rattle.book_ledger.specs.Tables.{frame_at}
 use Rattle.book_ledger.proofs.Outside.{frame_out}
-use Rattle.base_rules.proofs.Facts.{steps}
 use Rattle.book_ledger.proofs.tables.frame_at.Goals as goal
 
 pub returns-then-at-frames : goal.returns-then-at-frames

@@ -1,6 +1,4 @@
-use Rattle.base_rules.proofs.Facts.{rules}
 use Rattle.book_ledger.specs.Tables.{page_at}
-use Rattle.base_rules.proofs.Facts.{steps}
 use Rattle.book_ledger.proofs.tables.page_at.Goals as goal
 
 pub returns : goal.returns

@@ -1,6 +1,4 @@
-use Rattle.base_rules.proofs.Facts.{rules}
 use Rattle.book_ledger.specs.Tables.{set_domain}
-use Rattle.base_rules.proofs.Facts.{steps}
 use Rattle.book_ledger.proofs.tables.put_domain.Goals as goal
 
 pub returns : goal.returns

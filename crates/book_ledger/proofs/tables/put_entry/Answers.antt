@@ -1,6 +1,5 @@
-use Rattle.base_rules.proofs.Facts.{arith, set_out, sym, rules}
+use Rattle.base_rules.proofs.Facts.{arith, set_out, sym}
 use Rattle.book_ledger.specs.Tables.{set_entry}
-use Rattle.base_rules.proofs.Facts.{steps}
 use Rattle.book_ledger.proofs.tables.put_entry.Goals as goal
 
 pub returns-then-at-entries : goal.returns-then-at-entries

@@ -1,6 +1,5 @@
-use Rattle.base_rules.proofs.Facts.{set_out, rules}
+use Rattle.base_rules.proofs.Facts.{set_out}
 use Rattle.book_ledger.specs.Tables.{set_frame}
-use Rattle.base_rules.proofs.Facts.{steps}
 use Rattle.book_ledger.proofs.tables.put_frame.Goals as goal
 
 pub returns-then-at-frames : goal.returns-then-at-frames

@@ -1,6 +1,5 @@
 use Rattle.base_rules.proofs.Facts.{arith, set_out, sym, rules}
 use Rattle.book_ledger.specs.Tables.{set_record_word}
-use Rattle.base_rules.proofs.Facts.{steps}
 use Rattle.book_ledger.proofs.tables.put_record_word.Goals as goal
 
 pub returns-then-at-domains : goal.returns-then-at-domains

@@ -2,7 +2,6 @@ use Rattle.base_rules.specs.Basics.{◌+◌, ◌*◌, ◌%◌}
 use Rattle.base_rules.proofs.Facts.{sym, arith, List·getD-eq-default, rules}
 use Rattle.base_units.specs.Limits.{record_words}
 use Rattle.book_ledger.specs.Tables.{record_word}
-use Rattle.base_rules.proofs.Facts.{steps}
 use Rattle.book_ledger.proofs.tables.record_word.Goals as goal
 
 pub returns-then-rec-domains : goal.returns-then-rec-domains

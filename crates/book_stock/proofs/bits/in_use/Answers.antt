@@ -1,6 +1,4 @@
-use Rattle.base_rules.proofs.Facts.{rules}
 use Rattle.book_stock.specs.Bits.{bit_set, in_use}
-use Rattle.base_rules.proofs.Facts.{steps}
 use Rattle.book_stock.proofs.bits.in_use.Goals as goal
 
 pub returns : goal.returns

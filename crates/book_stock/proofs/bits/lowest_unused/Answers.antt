@@ -1,4 +1,4 @@
-use Rattle.base_rules.proofs.Facts.{refl, ◌∙◌, rules}
+use Rattle.base_rules.proofs.Facts.{refl, ◌∙◌}
 use Rattle.book_stock.specs.Bits.{lowest_unused}
 use Rattle.book_stock.proofs.Runs.{turn_past, turn_end, turn_at, turn_done}
 use Rattle.book_stock.proofs.bits.lowest_unused.Goals as goal

@@ -1,6 +1,5 @@
-use Rattle.base_rules.proofs.Facts.{set_out, rules}
+use Rattle.base_rules.proofs.Facts.{set_out}
 use Rattle.book_stock.specs.Bits.{word_of, set_use}
-use Rattle.base_rules.proofs.Facts.{steps}
 use Rattle.book_stock.proofs.bits.put_use.Goals as goal
 
 pub returns-then-index-stock : goal.returns-then-index-stock

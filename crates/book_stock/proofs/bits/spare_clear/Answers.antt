@@ -1,7 +1,5 @@
-use Rattle.base_rules.proofs.Facts.{rules}
 use Rattle.book_stock.specs.Bits.{spare_clear}
 use Rattle.book_stock.proofs.Bit.{shl_bit}
-use Rattle.base_rules.proofs.Facts.{steps}
 use Rattle.book_stock.proofs.bits.spare_clear.Goals as goal
 
 pub returns : goal.returns

@@ -1,5 +1,5 @@
 use Rattle.base_rules.proofs.Facts.{rules}
-use Rattle.book_stock.proofs.Runs.{rest_fits, run_fits, run_used, run_ends}
+use Rattle.book_stock.proofs.Runs.{run_used, run_ends}
 use Rattle.book_stock.proofs.bits.used_run.Goals as goal
 
 pub returns-clause-used : goal.returns-clause-used

@@ -1,6 +1,6 @@
-use Rattle.base_rules.proofs.Facts.{arith, steps, rules}
+use Rattle.base_rules.proofs.Facts.{arith, steps}
 use Rattle.book_stock.specs.Bits.{bit_set, with_bit}
-use Rattle.book_stock.proofs.Bit.{shl_bit, set_le, room}
+use Rattle.book_stock.proofs.Bit.{shl_bit, room}
 use Rattle.book_stock.proofs.bits.with_bit.Goals as goal
 
 pub returns-then-on : goal.returns-then-on

@@ -1,6 +1,5 @@
 use Rattle.base_rules.proofs.Facts.{List·getD-eq-default, rules}
 use Rattle.book_stock.specs.Bits.{word_of}
-use Rattle.base_rules.proofs.Facts.{steps}
 use Rattle.book_stock.proofs.bits.word_of.Goals as goal
 
 pub returns-then-index-stock : goal.returns-then-index-stock

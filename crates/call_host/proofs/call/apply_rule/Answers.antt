@@ -1,6 +1,4 @@
-use Rattle.base_rules.proofs.Facts.{rules}
 use Rattle.call_host.specs.Calls.{rule_of, settled}
-use Rattle.base_rules.proofs.Facts.{steps}
 use Rattle.call_host.proofs.call.apply_rule.Goals as goal
 
 pub returns : goal.returns

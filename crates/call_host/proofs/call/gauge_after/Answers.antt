@@ -1,4 +1,4 @@
-use Rattle.base_rules.proofs.Facts.{steps, rules}
+use Rattle.base_rules.proofs.Facts.{steps}
 use Rattle.call_host.specs.Calls.{gauge_after}
 use Rattle.call_host.proofs.call.gauge_after.Goals as goal
 

@@ -1,6 +1,4 @@
-use Rattle.base_rules.proofs.Facts.{rules}
 use Rattle.call_host.specs.Calls.{plan_of}
-use Rattle.base_rules.proofs.Facts.{steps}
 use Rattle.call_host.proofs.call.plan_of.Goals as goal
 
 pub returns-in-Create : goal.returns-in-Create

@@ -1,4 +1,4 @@
-use Rattle.base_rules.proofs.Facts.{steps, rules}
+use Rattle.base_rules.proofs.Facts.{steps}
 use Rattle.call_host.specs.Calls.{marks_of}
 use Rattle.call_host.proofs.setting.set_marks.Goals as goal
 

@@ -1,4 +1,4 @@
-use Rattle.call_plan.proofs.Ons.{ons, rules}
+use Rattle.call_plan.proofs.Ons.{ons}
 use Rattle.call_plan.specs.Changes.{lose}
 use Rattle.call_plan.proofs.change.loses.Goals as goal
 

@@ -1,4 +1,4 @@
-use Rattle.call_plan.proofs.Ons.{ons, rules}
+use Rattle.call_plan.proofs.Ons.{ons}
 use Rattle.call_plan.specs.Entries.{entry_for}
 use Rattle.call_plan.proofs.entry.entry_for.Goals as goal
 

@@ -1,4 +1,4 @@
-use Rattle.call_plan.proofs.Ons.{ons, rules}
+use Rattle.call_plan.proofs.Ons.{ons}
 use Rattle.call_plan.specs.Entries.{free_at}
 use Rattle.call_plan.proofs.entry.free_at.Goals as goal
 

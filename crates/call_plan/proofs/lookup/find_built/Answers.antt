@@ -1,4 +1,4 @@
-use Rattle.call_plan.proofs.Ons.{ons, rules}
+use Rattle.call_plan.proofs.Ons.{ons}
 use Rattle.call_plan.specs.Lookup.{built_for}
 use Rattle.call_plan.proofs.lookup.find_built.Goals as goal
 

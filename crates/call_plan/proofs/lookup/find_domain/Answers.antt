@@ -1,4 +1,4 @@
-use Rattle.call_plan.proofs.Ons.{ons, rules}
+use Rattle.call_plan.proofs.Ons.{ons}
 use Rattle.call_plan.specs.Lookup.{domain_for}
 use Rattle.call_plan.proofs.lookup.find_domain.Goals as goal
 

@@ -1,4 +1,4 @@
-use Rattle.call_plan.proofs.Ons.{ons, rules}
+use Rattle.call_plan.proofs.Ons.{ons}
 use Rattle.call_plan.specs.Lookup.{frame_operand}
 use Rattle.call_plan.proofs.lookup.frame_operand.Goals as goal
 

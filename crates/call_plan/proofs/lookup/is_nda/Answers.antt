@@ -1,4 +1,4 @@
-use Rattle.call_plan.proofs.Ons.{ons, rules}
+use Rattle.call_plan.proofs.Ons.{ons}
 use Rattle.call_plan.specs.Lookup.{is_nda}
 use Rattle.call_plan.proofs.lookup.is_nda.Goals as goal
 
