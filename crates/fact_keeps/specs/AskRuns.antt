@@ -1,6 +1,6 @@
 -- A run of everything that a host asks (calls, marks, resets), checked once at its start, and beside it single asks one after the other.
-use Rattle.std.specs.Prelude.{◌≡◌, false, List, [], ◌∷◌, length}
-use Rattle.base_rules.specs.Basics.{◌⊎◌, given}
+use Rattle.std.specs.Prelude.{◌≡◌, false, List, [], ◌∷◌, length, ◌⊎◌}
+use Rattle.base_rules.specs.Basics.{given}
 use Rattle.base_units.specs.declared.address.Hpa.{Hpa}
 use Rattle.book_gauge.specs.{Marks.marks_ok, declared.Gauge.Gauge}
 use Rattle.book_ledger.specs.Tables.{Tables}
