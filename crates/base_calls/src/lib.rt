@@ -2,7 +2,7 @@
 #![tactic(auto)]
 
 ghost use Rattle.std.specs.Prelude.{◌≡◌};
-ghost use Rattle.base_calls.specs.Answers.{values_of};
+ghost use Rattle.base_calls.specs.Answers.{number_of_fault, values_of};
 
 use base_units::address::{Gpa, Hpa};
 
@@ -93,18 +93,53 @@ pub enum Ask {
     Unreadable,
 }
 
-// The paper's answers: accepted, with a page's type and owner or an entry's level, state and hpa where the call reads them; or a
-// number of "When the module says no", with the operand at fault (from 0), or with the level and state of 6 and 7.
-#[derive(Clone, Copy)]
-pub enum Answer {
+// What an accepted call reads out: nothing, a page's type and owner, or an entry's level, state and hpa.
+#[derive(Clone, Copy, PartialEq, Eq)]
+pub enum Reading {
     Done,
     Page(u64, Hpa),
     Entry(usize, u64, Hpa),
-    No(u64, u64),
-    Stop(u64, usize, u64),
 }
 
-// An answer as the paper writes it: its number and all that is read out.
+// The paper's numbers of "When the module says no", each by what is wrong.
+#[derive(Clone, Copy, PartialEq, Eq)]
+pub enum Fault {
+    Operand = 1,
+    Kind = 2,
+    Life = 3,
+    Pages = 4,
+    OpState = 5,
+    Walk = 6,
+    State = 7,
+    Untracked = 8,
+    Remains = 9,
+    Key = 10,
+    Stock = 11,
+    Epoch = 12,
+    Range = 13,
+    Link = 14,
+    Unreadable = 15,
+}
+
+impl Fault {
+    pub fn number(self) -> u64
+        ensures { result ≡ number_of_fault self }
+    {
+        self as u64
+    }
+}
+
+// A refusal: with the operand at fault (from 0), or with the level and state where a walk ended (6) or of the entry that it found (7).
+#[derive(Clone, Copy, PartialEq, Eq)]
+pub enum Refusal {
+    No(Fault, u64),
+    Stop(Fault, usize, u64),
+}
+
+// The paper's answers: accepted, or refused.
+pub type Answer = Result<Reading, Refusal>;
+
+// An answer as the paper writes it and as C reads it: its number and all that is read out, kinds and states as numbers.
 #[repr(C)]
 #[derive(Clone, Copy)]
 pub struct Values {
@@ -116,49 +151,44 @@ pub struct Values {
     pub hpa: Hpa,
 }
 
-pub fn values_of(a: Answer) -> Values
-    ensures { result ≡ values_of a }
-{
-    match a {
-        Answer::Done => plain(0),
-        Answer::Page(kind, owner) => Values {
-            number: 0,
-            kind,
-            owner,
-            level: 0,
-            state: 0,
-            hpa: Hpa(0),
-        },
-        Answer::Entry(level, state, hpa) => Values {
-            number: 0,
-            kind: 0,
-            owner: Hpa(0),
-            level,
-            state,
-            hpa,
-        },
-        Answer::No(number, _) => plain(number),
-        Answer::Stop(number, level, state) => Values {
-            number,
-            kind: 0,
-            owner: Hpa(0),
-            level,
-            state,
-            hpa: Hpa(0),
-        },
-    }
-}
+// Accepted, with nothing read out.
+const DONE: Values = Values {
+    number: 0,
+    kind: 0,
+    owner: Hpa(0),
+    level: 0,
+    state: 0,
+    hpa: Hpa(0),
+};
 
-// An answer that reads out zeros.
-fn plain(number: u64) -> Values
-    ensures { result ≡ values_of (Answer.No number 0) }
-{
-    Values {
-        number,
-        kind: 0,
-        owner: Hpa(0),
-        level: 0,
-        state: 0,
-        hpa: Hpa(0),
+impl From<Answer> for Values {
+    ghost from_gives = { λ a v. v ≡ values_of a };
+
+    #[tactic(auto, unfolding(crate::specs::Answers::values_of))]
+    fn from(a: Answer) -> Values {
+        match a {
+            Ok(Reading::Done) => DONE,
+            Ok(Reading::Page(kind, owner)) => Values {
+                kind,
+                owner,
+                ..DONE
+            },
+            Ok(Reading::Entry(level, state, hpa)) => Values {
+                level,
+                state,
+                hpa,
+                ..DONE
+            },
+            Err(Refusal::No(fault, _)) => Values {
+                number: fault.number(),
+                ..DONE
+            },
+            Err(Refusal::Stop(fault, level, state)) => Values {
+                number: fault.number(),
+                level,
+                state,
+                ..DONE
+            },
+        }
     }
 }

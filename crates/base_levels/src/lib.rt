@@ -5,8 +5,7 @@ ghost use Rattle.std.specs.Prelude.{◌≡◌};
 ghost use Rattle.base_levels.specs.Level.{row_of, level_ok, gpa_fits, index_at};
 
 use base_units::address::Gpa;
-use base_units::limits;
-use base_units::limits::{GPA_END_BYTES, TABLE_ENTRIES};
+use base_units::limits::{GPA_END_BYTES, Limits, TABLE_ENTRIES};
 
 #[derive(Clone, Copy)]
 pub struct LevelRow {
@@ -27,17 +26,19 @@ const LEVELS: [LevelRow; ROWS] = [
 pub fn row_of(level: usize) -> LevelRow
     ensures { result ≡ row_of level }
 {
-    if level < ROWS {
-        return LEVELS[level];
-    }
-    LevelRow { low: 0, shift: 0 }
+    let none = LevelRow { low: 0, shift: 0 };
+    LEVELS.get(level).copied().unwrap_or(none)
 }
 
 // Whether a call that takes levels from `least` on takes this one.
 pub fn level_ok(least: usize, level: usize) -> bool
     ensures { result ≡ level_ok least level }
 {
-    limits::is_between(least as u64, level as u64, (ROWS - 1) as u64)
+    let levels = Limits {
+        least: least as u64,
+        most: (ROWS - 1) as u64,
+    };
+    levels.allow(level as u64)
 }
 
 // A gpa for a level: below the guest's private end, and its low bits zero.

@@ -4,7 +4,7 @@ use Rattle.base_rules.proofs.Facts.{refl, ◌∙◌, ap, sym, arith, lt-ltb, le-
 use Rattle.base_rules.proofs.Facts.{both_right}
 use Rattle.base_units.specs.Limits.{between}
 use Rattle.base_numbers.specs.Number.{number_most, nought, is_digit, all_digits, value_from, number_from, number_read, digits_by, decimal}
-use Rattle.base_numbers.specs.declared.Number.TheVariants.{Is}
+use Rattle.std.specs.Prelude.{Some}
 
 -- any number of divisions from n on gives the same digits
 enough : (k m n : ℕ) → n ≤ k → n ≤ m → digits_by k n ≡ digits_by m n
@@ -55,16 +55,16 @@ spells_by (suc k) n h = choose_both (Spells n) (ltb n 10) _ _ (λ q. spells_one 
     let d = digits_snoc ds (n % 10) s.digits (omega arith) in let v = value_snoc 0 ds (nought + n % 10) in
     record { value = v ∙ omega (arith, s.value); digits = d; lead = λ l. front ds _ (s.lead (omega arith)) })
 
-reads : (n : ℕ) (ds : List ℕ) → Spells n ds → 0 < n → n ≤ number_most → Is n ≡ number_read ds
+reads : (n : ℕ) (ds : List ℕ) → Spells n ds → 0 < n → n ≤ number_most → Some n ≡ number_read ds
 unfolding number_read number_from
 reads n [] s l h = let f = s.lead l in absurd (omega arith)
 reads n (d ∷ ds) s l h =
     let f : d ≡ nought → ⊥ = omega (arith, s.lead l) in let g : length (d ∷ ds) ≡ 0 → ⊥ = omega arith in
     let q : value_from 0 (d ∷ ds) ≤ number_most = omega (arith, s.value) in
-    if_ne _ g (if_ne _ f (if_true _ s.digits (if_le _ q (ap Is (sym s.value)))))
+    if_ne _ g (if_ne _ f (if_true _ s.digits (if_le _ q (ap Some (sym s.value)))))
 
 -- for readers: what is written reads back as the number
-pub read_back : (n : ℕ) → n ≤ number_most → number_read (decimal n) ≡ Is n
+pub read_back : (n : ℕ) → n ≤ number_most → number_read (decimal n) ≡ Some n
 unfolding number_read digits_by choose
 read_back zero h = refl
 read_back (suc n) h = sym (reads (suc n) (decimal (suc n)) (spells_by (suc n) (suc n) (omega arith)) (omega arith) h)

@@ -1,9 +1,7 @@
 -- Document 01, "The script": "Numbers: decimal, no sign, no leading zero but 0 itself, at most 2^64 - 1."
-use Rattle.std.specs.Prelude.{ℕ, zero, suc, ◌+◌, ◌-◌, ◌*◌, ◌/◌, ◌%◌, ◌^◌, Bool, true, false, List, [], ◌∷◌, ◌++◌, eqb, ltb, leb, length, get_or}
-use Rattle.base_rules.specs.Basics.{choose}
-use Rattle.base_rules.specs.Basics.{need}
+use Rattle.std.specs.Prelude.{ℕ, zero, suc, ◌+◌, ◌-◌, ◌*◌, ◌/◌, ◌%◌, ◌^◌, Bool, true, false, List, [], ◌∷◌, ◌++◌, eqb, ltb, leb, length, get_or, Option, Some, None}
+use Rattle.base_rules.specs.Basics.{choose, need}
 use Rattle.base_units.specs.Limits.{between}
-use Rattle.base_numbers.specs.declared.Number.{Number, TheVariants.Is, TheVariants.No}
 
 abbrev pub number_most : ℕ
 number_most = 2 ^ 64 - 1
@@ -25,17 +23,17 @@ value_from v [] = v
 value_from v (d ∷ ds) = value_from (v * 10 + (d - nought)) ds
 
 -- "decimal, [..] at most 2^64 - 1", after digits that spell v
-unfoldable pub number_from : ℕ → List ℕ → Number
+unfoldable pub number_from : ℕ → List ℕ → Option ℕ
 number_from v ds =
-    need (all_digits ds) No (
-    need (leb (value_from v ds) number_most) No
-    (Is (value_from v ds)))
+    need (all_digits ds) None (
+    need (leb (value_from v ds) number_most) None
+    (Some (value_from v ds)))
 
 -- "no leading zero but 0 itself"
-unfoldable pub number_read : List ℕ → Number
+unfoldable pub number_read : List ℕ → Option ℕ
 number_read field =
-    choose (eqb (length field) 0) No (
-    choose (eqb (get_or field 0 0) nought) (need (eqb (length field) 1) No (Is 0))
+    choose (eqb (length field) 0) None (
+    choose (eqb (get_or field 0 0) nought) (need (eqb (length field) 1) None (Some 0))
     (number_from 0 field))
 
 -- a number's digits, in at most k divisions by ten

@@ -22,5 +22,6 @@ pub use native.Mathlib.Omega.{arith}
 pub use borrow.Author.Tests.{lt-ltb, le-ltb, eqb-true, ltb-true, ltb-false, le-leb, lt-leb, leb-true, eq-eqb, ne_eqb, leb-false, eqb-false, not-true}
 pub use borrow.Author.Tests.{not-false}
 pub use borrow.Author.Rules.{rules}
-pub use Rattle.base_rules.proofs.Steps.{steps, by_eq, by_lt, both_left, both_right, if_true, choose_both, if_le, given_by, if_eq, if_ne, if_lt}
+pub use Rattle.base_rules.proofs.Steps.{steps, given_here, by_eq, by_lt, both_left, both_right, if_true, choose_both, if_le, given_by, if_eq, if_ne, if_lt}
+pub use Rattle.base_rules.proofs.Ons.{ons, option_some, option_none, result_ok, result_err, passed_on}
 pub use Rattle.base_rules.proofs.Uptos.{alls, any_at, at_any, all_at, sum_step, sum_end, at_from, Passed, all_start}

@@ -39,6 +39,10 @@ given_is : {A B : Type 0} (v : A) (k : A → B) → given v k ≡ k v
 unfolding given
 given_is v k = refl
 
+-- a value that the code has in its place
+pub given_here : {A B : Type 0} (v : A) {z : B} (k : A → B) → z ≡ k v → z ≡ given v k
+given_here v k g = rw (given_is v k) g
+
 -- a callee's answer r, which its contract gives as v
 pub given_by : {A B : Type 0} {r v : A} {z : B} (k : A → B) → r ≡ v → z ≡ k r → z ≡ given v k
 given_by {v = v} k e g = rw (given_is v k, ← e) g

@@ -9,40 +9,33 @@ const ADDRESS_FRAMES: u64 = 4503599627370496;
 
 // A host physical address, in bytes.
 #[repr(C)]
-#[derive(Clone, Copy)]
+#[derive(Clone, Copy, PartialEq, Eq)]
 pub struct Hpa(pub u64);
 
 // A frame's number in the window: 0 is the frame at the base.
-#[derive(Clone, Copy)]
+#[derive(Clone, Copy, PartialEq, Eq)]
 pub struct Pfn(pub usize);
 
 // A guest physical address, in bytes.
 #[repr(C)]
-#[derive(Clone, Copy)]
+#[derive(Clone, Copy, PartialEq, Eq)]
 pub struct Gpa(pub u64);
 
-// What an hpa names in a window.
-#[derive(Clone, Copy)]
-pub enum Place {
-    At(Pfn),
-    Outside,
-}
-
 // The frame that an hpa names: aligned and in the window.
-pub fn frame_of(base: Hpa, frames: usize, hpa: Hpa) -> Place
+pub fn frame_of(base: Hpa, frames: usize, hpa: Hpa) -> Option<Pfn>
     ensures { result ≡ frame_of base frames hpa }
 {
     if hpa.0 % FRAME_BYTES != 0 {
-        return Place::Outside;
+        return None;
     }
     if hpa.0 < base.0 {
-        return Place::Outside;
+        return None;
     }
     let number = (hpa.0 - base.0) / FRAME_BYTES;
     if number < (frames as u64) {
-        return Place::At(Pfn(number as usize));
+        return Some(Pfn(number as usize));
     }
-    Place::Outside
+    None
 }
 
 // The hpa of a frame. Within the limits nothing wraps (`hpa_exact` of proofs/Places).

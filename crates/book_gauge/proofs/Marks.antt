@@ -1,9 +1,9 @@
 -- Marks of a window of n frames: each has one count, which `count_of` finds, so the search of `is_mark` comes down to a single try.
-use Rattle.base_rules.specs.Basics.{◌≡◌, true, false, not, ℕ, ◌+◌, ◌*◌, ◌^◌, ◌≤◌, ◌<◌, ltb, leb, choose, given, any_from}
+use Rattle.base_rules.specs.Basics.{◌≡◌, true, false, ℕ, ◌+◌, ◌*◌, ◌^◌, ◌≤◌, ◌<◌, ltb, leb, choose, given, any_from}
 use Rattle.base_rules.proofs.Facts.{refl, sym, ap, ◌∙◌, zero-le, le_trans, lt_of_le_of_lt, zero-mul, arith, lit≤, lit<, le→leb, pow_pos, pow_mono, lt-ltb}
 use Rattle.base_rules.proofs.Facts.{leb-true, eq-eqb, eqb-true, choose_both, both_right, if_true, if_le, given_by, any_at, at_any}
-use lib.{IntN.pos, Ieee.Fits.down_pos, Ieee.Fits.div-fits, Ieee.Bits.of_bits-to_bits, Ieee.Compare.differs_from_itself, Ieee.Compare.nan_differs}
-use lib.Ieee.{Float, nan, inf, fin, binary64, up, down, round, of_int, mul, lt, le, ne, is_nan, fits, of_bits, to_bits, in_float}
+use lib.{IntN.pos, Ieee.Fits.down_pos, Ieee.Fits.div-fits, Ieee.Bits.of_bits-to_bits}
+use lib.Ieee.{Float, nan, inf, fin, binary64, up, down, round, of_int, mul, lt, le, is_nan, fits, of_bits, to_bits, in_float}
 use lib.{Ieee.Exact.HasValue, Ieee.Back.unsigned_back}
 use Rattle.base_units.specs.Limits.{frames_ok}
 use Rattle.book_gauge.specs.{Fill.ratio, Marks.same_bits, Marks.cut_to, Marks.count_of, Marks.is_mark, Marks.zero_mark, Marks.Mark}
@@ -11,17 +11,6 @@ use Rattle.book_gauge.proofs.{Value.whole_val, Value.ratio_round, Value.ratio_va
 use Rattle.book_gauge.proofs.Order.{same_test, by_test, values_lt, values_le}
 
 -- ---- bits
--- `x != x` asks for a NaN
-pub nan_told : (x : Float) → ne x x ≡ true → not (is_nan x) ≡ false
-unfolding is_nan
-nan_told x e = rw (differs_from_itself x (rw e tt))
-
-pub number_told : (x : Float) → ne x x ≡ false → not (is_nan x) ≡ true
-unfolding is_nan
-number_told nan e = sym e ∙ nan_differs
-number_told (inf s) e = refl
-number_told (fin s m d) e = refl
-
 same_self : (x : Float) (a c : ℕ) → HasValue x false a c → same_bits x x ≡ true
 unfolding same_bits choose is_nan
 same_self nan a c v = elim v [ ]

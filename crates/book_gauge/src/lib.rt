@@ -29,10 +29,10 @@ pub fn fill_of(used: u64, frames: u64) -> f64
 fn same_bits(a: f64, b: f64) -> bool
     ensures { result ≡ same_bits a b }
 {
-    if a != a {
+    if a.is_nan() {
         return false;
     }
-    if b != b {
+    if b.is_nan() {
         return false;
     }
     f64::to_bits(a) == f64::to_bits(b)
@@ -107,12 +107,7 @@ pub fn updated(g: Gauge, used: u64, frames: u64) -> Gauge
 {
     let fill = fill_of(used, frames);
     let lamp = lamp_after(g.raise, g.clear, fill, g.lamp);
-    Gauge {
-        raise: g.raise,
-        clear: g.clear,
-        fill,
-        lamp,
-    }
+    Gauge { fill, lamp, ..g }
 }
 
 // The gauge with its marks set. Whether they are in rule has been asked before (`marks_ok`).

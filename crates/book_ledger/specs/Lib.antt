@@ -1,5 +1,6 @@
 pub mod Codes
 pub mod Words
 pub mod Tables
+pub mod Lent
 pub mod Count
 pub mod Sizes

@@ -2,7 +2,7 @@
 use Rattle.std.specs.Prelude.{ℕ, ◌+◌, ◌*◌, ◌%◌, List, get_or, set}
 use Rattle.base_units.specs.{Limits.table_entries, Limits.control_pages, Limits.record_words, declared.address.Pfn.Pfn}
 use Rattle.book_ledger.specs.Words.{frame_from, frame_word, domain_from, domain_word, entry_from, entry_word}
-use Rattle.book_ledger.specs.declared.words.{Frame.Frame, Domain.Domain, Entry.Entry}
+use Rattle.book_ledger.specs.declared.{words.Frame.Frame, words.Domain.Domain, words.Entry.Entry, tables.Slot.Slot}
 
 -- the four lent slices. Block t is table t, and block `tables + r` the root of record r
 pub record Tables : Type 0 where
@@ -38,6 +38,10 @@ page_at ds r i = record { 0 = record_word ds r (1 + i % control_pages) }
 
 unfoldable pub set_page : List ℕ → ℕ → ℕ → Pfn → List ℕ
 set_page ds r i n = set_record_word ds r (1 + i % control_pages) n.0
+
+-- the place of entry i of block b
+abbrev pub slot : ℕ → ℕ → Slot
+slot b i = record { block = b; index = i }
 
 -- entry i of a block
 unfoldable pub entry_at : List ℕ → ℕ → ℕ → Entry

@@ -6,8 +6,9 @@ ghost use Rattle.book_ledger.specs.Words.{frame_from, frame_word, domain_from, d
 use base_units::address::Pfn;
 
 // An epoch has 32 bits.
-const EPOCHS: u64 = 4294967296;
+const EPOCH_VALUES: u64 = 4294967296;
 
+// `kind`, `life`, `op` and `state` stay numbers: a lent word may hold any, and answer 13 (`lent_ok`) is about those that are no code.
 #[derive(Clone, Copy)]
 pub struct Frame {
     pub kind: u64,
@@ -34,60 +35,72 @@ pub struct Entry {
     pub frame: Pfn,
 }
 
-pub fn unpack_frame(word: u64) -> Frame
-    ensures { result ≡ frame_from word }
-{
-    Frame {
-        kind: word % 8,
-        owner: Pfn((word / 8 % 16384) as usize),
-        number: word / 131072 % 256,
-        epoch: word / 33554432 % EPOCHS,
-        size: word / 144115188075855872,
+impl From<u64> for Frame {
+    ghost from_gives = { λ word f. f ≡ frame_from word };
+
+    fn from(word: u64) -> Frame {
+        Frame {
+            kind: word % 8,
+            owner: Pfn((word / 8 % 16384) as usize),
+            number: word / 131072 % 256,
+            epoch: word / 33554432 % EPOCH_VALUES,
+            size: word / 144115188075855872,
+        }
     }
 }
 
-pub fn pack_frame(f: Frame) -> u64
-    ensures { result ≡ frame_word f }
-{
-    let owner = f.owner;
-    let dated = f.epoch % EPOCHS + EPOCHS * (f.size % 128);
-    f.kind % 8 + 8 * ((owner.0 as u64) % 16384 + 16384 * (f.number % 256 + 256 * dated))
-}
+impl From<Frame> for u64 {
+    ghost from_gives = { λ f word. word ≡ frame_word f };
 
-pub fn unpack_domain(word: u64) -> Domain
-    ensures { result ≡ domain_from word }
-{
-    Domain {
-        key: word % 128,
-        life: word / 128 % 8,
-        op: word / 1024 % 4,
-        listed: word / 4096 % 8,
-        children: word / 32768 % 32768,
-        epoch: word / 1073741824 % EPOCHS,
-        width: word / 4611686018427387904,
+    fn from(f: Frame) -> u64 {
+        let owner = f.owner;
+        let dated = f.epoch % EPOCH_VALUES + EPOCH_VALUES * (f.size % 128);
+        f.kind % 8 + 8 * ((owner.0 as u64) % 16384 + 16384 * (f.number % 256 + 256 * dated))
     }
 }
 
-pub fn pack_domain(d: Domain) -> u64
-    ensures { result ≡ domain_word d }
-{
-    let dated = d.epoch % EPOCHS + EPOCHS * (d.width % 4);
-    let counted = d.listed % 8 + 8 * (d.children % 32768 + 32768 * dated);
-    d.key % 128 + 128 * (d.life % 8 + 8 * (d.op % 4 + 4 * counted))
-}
+impl From<u64> for Domain {
+    ghost from_gives = { λ word d. d ≡ domain_from word };
 
-pub fn unpack_entry(word: u32) -> Entry
-    ensures { result ≡ entry_from word }
-{
-    Entry {
-        state: (word % 8) as u64,
-        frame: Pfn((word / 8) as usize),
+    fn from(word: u64) -> Domain {
+        Domain {
+            key: word % 128,
+            life: word / 128 % 8,
+            op: word / 1024 % 4,
+            listed: word / 4096 % 8,
+            children: word / 32768 % 32768,
+            epoch: word / 1073741824 % EPOCH_VALUES,
+            width: word / 4611686018427387904,
+        }
     }
 }
 
-pub fn pack_entry(e: Entry) -> u32
-    ensures { result ≡ entry_word e }
-{
-    let frame = e.frame;
-    (e.state % 8 + 8 * ((frame.0 as u64) % 536870912)) as u32
+impl From<Domain> for u64 {
+    ghost from_gives = { λ d word. word ≡ domain_word d };
+
+    fn from(d: Domain) -> u64 {
+        let dated = d.epoch % EPOCH_VALUES + EPOCH_VALUES * (d.width % 4);
+        let counted = d.listed % 8 + 8 * (d.children % 32768 + 32768 * dated);
+        d.key % 128 + 128 * (d.life % 8 + 8 * (d.op % 4 + 4 * counted))
+    }
+}
+
+impl From<u32> for Entry {
+    ghost from_gives = { λ word e. e ≡ entry_from word };
+
+    fn from(word: u32) -> Entry {
+        Entry {
+            state: (word % 8) as u64,
+            frame: Pfn((word / 8) as usize),
+        }
+    }
+}
+
+impl From<Entry> for u32 {
+    ghost from_gives = { λ e word. word ≡ entry_word e };
+
+    fn from(e: Entry) -> u32 {
+        let frame = e.frame;
+        (e.state % 8 + 8 * ((frame.0 as u64) % 536870912)) as u32
+    }
 }

@@ -8,7 +8,7 @@ use Rattle.book_stock.specs.Bits.{in_use, spare_clear}
 use Rattle.book_ledger.specs.Codes.{NDA, TDR, TDCX, EPT, REG, WRITTEN_BACK, RUNNABLE, FREE, PENDING_BLOCKED}
 use Rattle.book_ledger.specs.Tables.{Tables, frame_at, domain_at, page_at, entry_at}
 use Rattle.book_ledger.specs.Sizes.{bits_of, bit_of, root_of, sizes_of, sizes_ok}
-use Rattle.book_ledger.specs.declared.{sizes.Sizes.Sizes, words.Domain.Domain}
+use Rattle.book_ledger.specs.declared.{sizes.Sizes.Sizes, words.Domain.Domain, words.Entry.Entry, words.Frame.Frame}
 use Rattle.book_range.specs.declared.FrameLimits.{FrameLimits}
 
 -- owner, number, epoch and size each stay below this: "owner (the TDR's frame, for types 2 to 4) [..] for EPT its table number; for TDR its
@@ -17,33 +17,42 @@ use Rattle.book_range.specs.declared.FrameLimits.{FrameLimits}
 abbrev pub under : ℕ → ℕ → ℕ → ℕ → FrameLimits
 under o n e s = record { owner = o; number = n; epoch = e; size = s }
 
+-- the types with an epoch, and no type
+abbrev pub dated_limits : Sizes → ℕ → FrameLimits
+dated_limits s kind =
+    choose (eqb kind EPT) (under s.frames s.tables (epoch_most + 1) 1) (
+    choose (eqb kind REG) (under s.frames 1 (epoch_most + 1) 1)
+    (under 0 0 0 0))
+
 unfoldable pub frame_limits : Sizes → ℕ → FrameLimits
 frame_limits s kind =
     choose (eqb kind NDA) (under 1 1 1 1) (
     choose (eqb kind TDR) (under 1 s.records 1 1) (
-    choose (eqb kind TDCX) (under s.frames 1 1 1) (
-    choose (eqb kind EPT) (under s.frames s.tables (epoch_most + 1) 1) (
-    choose (eqb kind REG) (under s.frames 1 (epoch_most + 1) 1)
-    (under 0 0 0 0)))))
+    choose (eqb kind TDCX) (under s.frames 1 1 1)
+    (dated_limits s kind)))
 
-unfoldable pub frame_ok : Sizes → List ℕ → ℕ → Bool
-frame_ok s fs n =
-    given (frame_at fs (record { 0 = n })) λ f.
+abbrev pub frame_fits : Sizes → Frame → Bool
+frame_fits s f =
     given (frame_limits s f.kind) λ l.
     need (ltb f.owner.0 l.owner) false (
     need (ltb f.number l.number) false (
     need (ltb f.epoch l.epoch) false
     (ltb f.size l.size)))
 
+unfoldable pub frame_ok : Sizes → List ℕ → ℕ → Bool
+frame_ok s fs n = given (frame_at fs (record { 0 = n })) λ f. frame_fits s f
+
 unfoldable pub all_frames_ok : Sizes → List ℕ → Bool
 all_frames_ok s fs = all_from (frame_ok s fs) 0 (length fs)
 
 -- "and a frame unless FREE"
-unfoldable pub entry_ok : ℕ → List ℕ → ℕ → ℕ → Bool
-entry_ok frames es b i =
-    given (entry_at es b i) λ e.
+abbrev pub entry_fits : ℕ → Entry → Bool
+entry_fits frames e =
     need (leb e.state PENDING_BLOCKED) false (
     choose (eqb e.state FREE) (eqb e.frame.0 0) (ltb e.frame.0 frames))
+
+unfoldable pub entry_ok : ℕ → List ℕ → ℕ → ℕ → Bool
+entry_ok frames es b i = given (entry_at es b i) λ e. entry_fits frames e
 
 unfoldable pub entries_ok : ℕ → List ℕ → ℕ → Bool
 entries_ok frames es b = all_from (entry_ok frames es b) 0 table_entries

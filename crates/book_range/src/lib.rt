@@ -2,17 +2,16 @@
 #![tactic(auto)]
 
 ghost use Rattle.std.specs.Prelude.{◌≡◌};
-ghost use Rattle.book_ledger.specs.Tables.{lent};
-ghost use Rattle.book_range.specs.Range.{under, frame_limits, frame_ok, all_frames_ok, entry_ok, entries_ok, page_ok};
+ghost use Rattle.book_ledger.specs.Lent.{tables_in};
+ghost use Rattle.book_range.specs.Range.{under, dated_limits, frame_limits, frame_fits, all_frames_ok, entry_fits, entries_ok, page_ok};
 ghost use Rattle.book_range.specs.Range.{pages_ok, domain_ok, record_ok, table_ok, all_tables_ok, rooted_ok, all_records_ok, lent_ok};
 
-use base_units::address::{Hpa, Pfn};
-use base_units::limits;
-use base_units::limits::{CONTROL_PAGES, EPOCH_MOST, TABLE_ENTRIES};
+use base_units::limits::{CONTROL_PAGES, EPOCHS, KEYS, TABLE_ENTRIES};
 use book_ledger::codes::{EPT, FREE, NDA, PENDING_BLOCKED, REG, RUNNABLE, TDCX, TDR, WRITTEN_BACK};
 use book_ledger::sizes::Sizes;
-use book_ledger::words::Domain;
-use book_ledger::{sizes, tables};
+use book_ledger::tables;
+use book_ledger::tables::Lent;
+use book_ledger::words::{Domain, Entry, Frame};
 use book_stock::bits;
 
 // What each number of a frame of a type stays below: 1 where the type lacks it, so that it holds 0.
@@ -35,6 +34,20 @@ fn below(owner: u64, number: u64, epoch: u64, size: u64) -> FrameLimits
     }
 }
 
+// Apart: five types told apart in one function become a jump by a table, which is slow at each frame.
+#[inline(never)]
+fn dated_limits(s: Sizes, kind: u64) -> FrameLimits
+    ensures { result ≡ dated_limits s kind }
+{
+    if kind == EPT {
+        return below(s.frames as u64, s.tables as u64, EPOCHS.most + 1, 1);
+    }
+    if kind == REG {
+        return below(s.frames as u64, 1, EPOCHS.most + 1, 1);
+    }
+    below(0, 0, 0, 0)
+}
+
 fn frame_limits(s: Sizes, kind: u64) -> FrameLimits
     ensures { result ≡ frame_limits s kind }
 {
@@ -47,19 +60,12 @@ fn frame_limits(s: Sizes, kind: u64) -> FrameLimits
     if kind == TDCX {
         return below(s.frames as u64, 1, 1, 1);
     }
-    if kind == EPT {
-        return below(s.frames as u64, s.tables as u64, EPOCH_MOST + 1, 1);
-    }
-    if kind == REG {
-        return below(s.frames as u64, 1, EPOCH_MOST + 1, 1);
-    }
-    below(0, 0, 0, 0)
+    dated_limits(s, kind)
 }
 
-fn frame_ok(s: Sizes, frames: &[u64], frame: Pfn) -> bool
-    ensures { result ≡ frame_ok s frames.now frame.0 }
+fn frame_ok(s: Sizes, f: Frame) -> bool
+    ensures { result ≡ frame_fits s f }
 {
-    let f = tables::frame_at(frames, frame);
     let l = frame_limits(s, f.kind);
     let owner = f.owner;
     if (owner.0 as u64) >= l.owner {
@@ -77,20 +83,12 @@ fn frame_ok(s: Sizes, frames: &[u64], frame: Pfn) -> bool
 fn all_frames_ok(s: Sizes, frames: &[u64]) -> bool
     ensures { result ≡ all_frames_ok s frames.now }
 {
-    let mut n = 0;
-    while n < frames.len() {
-        if !frame_ok(s, frames, Pfn(n)) {
-            return false;
-        }
-        n += 1;
-    }
-    true
+    frames.iter().all(|&word| frame_ok(s, Frame::from(word)))
 }
 
-fn entry_ok(frames: usize, entries: &[u32], block: usize, index: usize) -> bool
-    ensures { result ≡ entry_ok frames entries.now block index }
+fn entry_ok(frames: usize, e: Entry) -> bool
+    ensures { result ≡ entry_fits frames e }
 {
-    let e = tables::entry_at(entries, block, index);
     let frame = e.frame;
     if e.state > PENDING_BLOCKED {
         return false;
@@ -101,17 +99,15 @@ fn entry_ok(frames: usize, entries: &[u32], block: usize, index: usize) -> bool
     frame.0 < frames
 }
 
+// The entries that the lent words lack read as 0, which is in range. No early end: so several entries are tested at a time.
 fn entries_ok(frames: usize, entries: &[u32], block: usize) -> bool
     ensures { result ≡ entries_ok frames entries.now block }
 {
-    let mut index = 0;
-    while index < TABLE_ENTRIES {
-        if !entry_ok(frames, entries, block, index) {
-            return false;
-        }
-        index += 1;
-    }
-    true
+    let from = block.saturating_mul(TABLE_ENTRIES).min(entries.len());
+    let to = (from + TABLE_ENTRIES).min(entries.len());
+    entries[from..to]
+        .iter()
+        .fold(true, |ok, &word| ok & entry_ok(frames, Entry::from(word)))
 }
 
 // A control page that isn't listed yet holds 0.
@@ -128,20 +124,13 @@ fn page_ok(frames: usize, listed: usize, domains: &[u64], rec: usize, page: usiz
 fn pages_ok(frames: usize, listed: usize, domains: &[u64], rec: usize) -> bool
     ensures { result ≡ pages_ok frames listed domains.now rec }
 {
-    let mut page = 0;
-    while page < CONTROL_PAGES {
-        if !page_ok(frames, listed, domains, rec, page) {
-            return false;
-        }
-        page += 1;
-    }
-    true
+    (0..CONTROL_PAGES).all(|page| page_ok(frames, listed, domains, rec, page))
 }
 
 fn domain_ok(frames: usize, d: Domain) -> bool
     ensures { result ≡ domain_ok frames d }
 {
-    if !limits::key_ok(d.key) {
+    if !KEYS.allow(d.key) {
         return false;
     }
     if d.life > WRITTEN_BACK {
@@ -156,7 +145,7 @@ fn domain_ok(frames: usize, d: Domain) -> bool
     if d.children > (frames as u64) {
         return false;
     }
-    if !limits::epoch_ok(d.epoch) {
+    if !EPOCHS.allow(d.epoch) {
         return false;
     }
     d.width == 0
@@ -182,69 +171,47 @@ fn table_ok(frames: usize, stock: &[u64], entries: &[u32], table: usize) -> bool
     entries_ok(frames, entries, table)
 }
 
-fn all_tables_ok(s: Sizes, stock: &[u64], entries: &[u32]) -> bool
-    ensures { result ≡ all_tables_ok s stock.now entries.now }
+fn all_tables_ok(s: Sizes, t: &Lent) -> bool
+    ensures { result ≡ all_tables_ok s t.now.stock.now t.now.entries.now }
 {
-    let mut table = 0;
-    while table < s.tables {
-        if !table_ok(s.frames, stock, entries, table) {
-            return false;
-        }
-        table += 1;
-    }
-    true
+    (0..s.tables).all(|table| table_ok(s.frames, t.stock, t.entries, table))
 }
 
 // Nor is an unused record, nor its root.
-fn rooted_ok(frames: usize, domains: &[u64], stock: &[u64], entries: &[u32], rec: usize) -> bool
-    ensures { result ≡ rooted_ok frames domains.now stock.now entries.now rec }
+fn rooted_ok(frames: usize, t: &Lent, rec: usize) -> bool
+    ensures { result ≡ rooted_ok frames t.now.domains.now t.now.stock.now t.now.entries.now rec }
 {
-    let bit = sizes::bit_of(domains.len(), entries.len(), rec);
-    if !bits::in_use(stock, bit) {
+    if !bits::in_use(t.stock, t.bit_of(rec)) {
         return true;
     }
-    if !record_ok(frames, domains, rec) {
+    if !record_ok(frames, t.domains, rec) {
         return false;
     }
-    let root = sizes::root_of(domains.len(), entries.len(), rec);
-    entries_ok(frames, entries, root)
+    entries_ok(frames, t.entries, t.root_of(rec))
 }
 
-fn all_records_ok(s: Sizes, domains: &[u64], stock: &[u64], entries: &[u32]) -> bool
-    ensures { result ≡ all_records_ok s domains.now stock.now entries.now }
+fn all_records_ok(s: Sizes, t: &Lent) -> bool
+    ensures { result ≡ all_records_ok s t.now.domains.now t.now.stock.now t.now.entries.now }
 {
-    let mut rec = 0;
-    while rec < s.records {
-        if !rooted_ok(s.frames, domains, stock, entries, rec) {
-            return false;
-        }
-        rec += 1;
-    }
-    true
+    (0..s.records).all(|rec| rooted_ok(s.frames, t, rec))
 }
 
 // Whether answer 13 has nothing to say of the lent tables.
-pub fn lent_ok(base: Hpa, frames: &[u64], domains: &[u64], stock: &[u64], entries: &[u32]) -> bool
-    ensures { result ≡ lent_ok base (lent frames.now domains.now stock.now entries.now) }
+pub fn lent_ok(t: &Lent) -> bool
+    ensures { result ≡ lent_ok t.now.base (tables_in t.now) }
 {
-    if !sizes::sizes_ok(
-        base,
-        frames.len(),
-        domains.len(),
-        stock.len(),
-        entries.len(),
-    ) {
+    if !t.sizes_ok() {
         return false;
     }
-    let s = sizes::sizes_of(frames.len(), domains.len(), entries.len());
-    if !bits::spare_clear(stock, sizes::bits_of(domains.len(), entries.len())) {
+    let s = t.sizes();
+    if !bits::spare_clear(t.stock, t.bits()) {
         return false;
     }
-    if !all_frames_ok(s, frames) {
+    if !all_frames_ok(s, t.frames) {
         return false;
     }
-    if !all_tables_ok(s, stock, entries) {
+    if !all_tables_ok(s, t) {
         return false;
     }
-    all_records_ok(s, domains, stock, entries)
+    all_records_ok(s, t)
 }

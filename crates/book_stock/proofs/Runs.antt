@@ -3,7 +3,7 @@ use Rattle.base_rules.specs.Basics.{◌≡◌, true, false, List, ℕ, zero, suc
 use Rattle.base_rules.proofs.Facts.{arith, pow-succ', pow_pos, pow_mono, shr-shr, eq-eqb, ne_eqb, by_eq, by_lt, add-zero, zero-add, add_assoc}
 use native.Mathlib.Nat.{div-le_self}
 use lib.Count.{count_trailing_zeros, trailing_le}
-use Rattle.book_stock.specs.declared.bits.Lowest.{TheVariants.At, TheVariants.Full}
+use Rattle.std.specs.Prelude.{Some, None}
 use Rattle.book_stock.specs.Bits.{word_bits, word_of, bit_set, in_use, lowest_from}
 use Rattle.book_stock.proofs.Bit.{bit, set_le}
 
@@ -86,13 +86,13 @@ module _ (ws : List ℕ) where
     pub turn_past : (k : ℕ) → k < to - b → Stretch b k → lowest_from ws b (to - b) ≡ lowest_from ws (b + k) (to - (b + k))
     turn_past k h u = let e : to - b ≡ k + (to - (b + k)) = omega arith in rw e (past k b (to - (b + k)) u)
 
-    pub turn_end : (k : ℕ) → to - b ≤ k → Stretch b k → lowest_from ws b (to - b) ≡ Full
+    pub turn_end : (k : ℕ) → to - b ≤ k → Stretch b k → lowest_from ws b (to - b) ≡ None
     unfolding lowest_from
     turn_end k h u = let e : to - b ≡ to - b + 0 = omega arith in rw e (past (to - b) b 0 (λ j l. u j (omega arith)))
 
-    pub turn_at : b < to → in_use ws b ≡ false → lowest_from ws b (to - b) ≡ At b
+    pub turn_at : b < to → in_use ws b ≡ false → lowest_from ws b (to - b) ≡ Some b
     unfolding lowest_from choose
     turn_at h u = let e : to - b ≡ suc (to - (b + 1)) = omega arith in rw (e, u)
 
-    pub turn_done : to ≤ b → lowest_from ws b (to - b) ≡ Full
+    pub turn_done : to ≤ b → lowest_from ws b (to - b) ≡ None
     turn_done h = turn_end 0 (omega arith) (λ j l. absurd (omega arith))

@@ -1,25 +1,10 @@
--- Laws of wiping, over any width: a turn of the loop and its end, the part put back, and what a wiped list reads.
-use Rattle.base_rules.specs.Basics.{◌≡◌, List, ◌++◌, ℕ, ◌+◌, ◌-◌, ◌*◌, ◌/◌, ◌<◌, ◌≤◌, ltb, length, get_or, set, take, drop, replicate, choose}
-use Rattle.base_rules.proofs.Facts.{refl, ◌∙◌, append-nil, div-mul-le_self, mul-le-mul_right, suc-mul, le_trans, add_assoc, arith, lt-ltb, ltb-true, by_lt}
-use Rattle.base_rules.proofs.Facts.{List·getD-append, length-set, length-append, length-take, length-drop, length-replicate, get_or-replicate, drop-length}
+-- Laws of wiping, over any width: the part put back, and what a wiped list reads.
+use Rattle.base_rules.specs.Basics.{◌≡◌, List, ◌++◌, ℕ, ◌+◌, ◌-◌, ◌*◌, ◌/◌, ◌<◌, ◌≤◌, ltb, length, get_or, take, drop, replicate, choose}
+use Rattle.base_rules.proofs.Facts.{refl, ◌∙◌, div-mul-le_self, mul-le-mul_right, suc-mul, le_trans, add_assoc, arith, lt-ltb, ltb-true, by_lt}
+use Rattle.base_rules.proofs.Facts.{List·getD-append, length-append, length-take, length-drop, length-replicate, get_or-replicate}
 use Rattle.base_rules.proofs.Facts.{drop-drop, get_or-take, get_or-drop, get_or-append-add, length-take-le, choose_both, if_lt}
-use borrow.{Author.Fill.fill_none, Author.Fill.fill_more, Rule.Slice.PartMut.put_mid}
+use borrow.Rule.Slice.PartMut.{put_mid}
 use Rattle.book_stock.specs.Wipe.{wiped_at}
-
--- the part after i turns, from what it was
-pub record Wiping (old part : List ℕ) (i : ℕ) : Type 0 where
-  pub within : i ≤ length old
-  pub size : length part ≡ length old
-  pub zeros : part ≡ replicate i 0 ++ drop i old
-
-pub wiping_none : (old : List ℕ) → Wiping old old 0
-wiping_none old = record { within = omega arith; size = refl; zeros = fill_none old 0 }
-
-pub wiping_more : {old part : List ℕ} {i : ℕ} → Wiping old part i → i < length part → Wiping old (set part i 0) (i + 1)
-wiping_more {old} {i = i} w h = record { within = omega arith; size = simp length-set w.size; zeros = rw w.zeros (fill_more i 0 old (omega arith)) }
-
-pub wiping_end : {old part : List ℕ} {i : ℕ} → Wiping old part i → length part ≤ i → part ≡ replicate (length old) 0
-wiping_end {old} {i = i} w h = let e : i ≡ length old = omega arith in w.zeros ∙ rw (e, drop-length, append-nil)
 
 block_end : (width n b : ℕ) → b < n / width → b * width + width ≤ n
 block_end width n b h = rw (← suc-mul) (le_trans (mul-le-mul_right width h) (div-mul-le_self n width))

@@ -1,7 +1,6 @@
 -- "Each says whether it is in use": bit b stands in word b / 64, as bit b % 64 of it.
-use Rattle.std.specs.Prelude.{ℕ, zero, suc, ◌+◌, ◌-◌, ◌/◌, ◌%◌, ◌^◌, Bool, List, get_or, set, eqb, ltb}
+use Rattle.std.specs.Prelude.{Option, Some, None, ℕ, zero, suc, ◌+◌, ◌-◌, ◌/◌, ◌%◌, ◌^◌, Bool, List, get_or, set, eqb, ltb}
 use Rattle.base_rules.specs.Basics.{choose}
-use Rattle.book_stock.specs.declared.bits.Lowest.{Lowest, TheVariants.At, TheVariants.Full}
 
 -- bits of a word
 abbrev pub word_bits : ℕ
@@ -25,17 +24,13 @@ set_use ws b on = set ws (b / word_bits) (with_bit (word_of ws b) (b % word_bits
 
 -- "A record or a table is taken lowest number first": the lowest of the k blocks from b on that isn't in use
 module _ (ws : List ℕ) where
-  unfoldable pub lowest_from : ℕ → ℕ → Lowest
-  lowest_from b zero = Full
-  lowest_from b (suc k) = choose (in_use ws b) (lowest_from (b + 1) k) (At b)
+  unfoldable pub lowest_from : ℕ → ℕ → Option ℕ
+  lowest_from b zero = None
+  lowest_from b (suc k) = choose (in_use ws b) (lowest_from (b + 1) k) (Some b)
 
   -- from `from` up to but not including `to`
-  unfoldable pub lowest_unused : ℕ → ℕ → Lowest
+  unfoldable pub lowest_unused : ℕ → ℕ → Option ℕ
   lowest_unused from to = lowest_from from (to - from)
-
-unfoldable pub on_lowest : {A : Type 0} → Lowest → A → (ℕ → A) → A
-on_lowest Full z k = z
-on_lowest (At b) z k = k b
 
 -- the bits of blocks from n on are zero, in the word of block n. (Where n fills its words that is one past them, and reads 0.)
 unfoldable pub spare_clear : List ℕ → ℕ → Bool

@@ -3,25 +3,12 @@ ghost use Rattle.std.specs.Prelude.{◌≡◌, ℕ, ◌+◌, ◌%◌, ◌<◌, t
 ghost use Rattle.book_stock.specs.Bits.{word_bits, word_of, in_use, with_bit, set_use, lowest_unused, spare_clear};
 
 pub const WORD_BITS: usize = 64;
-// A word whose bits are all ones.
-const WORD_MOST: u64 = 18446744073709551615;
-
-// The lowest unused block of a range, where there is one.
-#[derive(Clone, Copy)]
-pub enum Lowest {
-    At(usize),
-    Full,
-}
 
 // The word that a block's bit stands in.
 fn word_of(stock: &[u64], block: usize) -> u64
     ensures { result ≡ word_of stock.now block }
 {
-    let index = block / WORD_BITS;
-    if index < stock.len() {
-        return stock[index];
-    }
-    0
+    stock.get(block / WORD_BITS).copied().unwrap_or(0)
 }
 
 pub fn in_use(stock: &[u64], block: usize) -> bool
@@ -64,27 +51,26 @@ fn used_run(stock: &[u64], block: usize) -> usize
     ensures ends { result ≡ 0 → in_use stock.now block ≡ false }
 {
     let word = word_of(stock, block);
-    // With every bit turned over, what stands below the lowest one are the bits in use.
-    let unused = WORD_MOST - (word >> (block % WORD_BITS));
-    u64::trailing_zeros(unused) as usize
+    (word >> (block % WORD_BITS)).trailing_ones() as usize
 }
 
-// The lowest unused block from `from` up to but not including `to`. A stretch in use is passed over at once, up to a whole word of it.
-pub fn lowest_unused(stock: &[u64], from: usize, to: usize) -> Lowest
+// The lowest unused block from `from` up to but not including `to`. A stretch in use is passed over at once, up to a whole word of it:
+// no step is like the next, so the loop is a `while`.
+pub fn lowest_unused(stock: &[u64], from: usize, to: usize) -> Option<usize>
     ensures { result ≡ lowest_unused stock.now from to }
 {
     let mut block = from;
     while block < to {
         let used = used_run(stock, block);
         if used == 0 {
-            return Lowest::At(block);
+            return Some(block);
         }
         if to - block <= used {
-            return Lowest::Full;
+            return None;
         }
         block += used;
     }
-    Lowest::Full
+    None
 }
 
 // Whether the bits from `blocks` on are zero, in the word where they begin.

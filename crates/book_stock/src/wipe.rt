@@ -1,29 +1,10 @@
-// A block or a record is wiped when it is taken: its part of the lent words is lent on from the middle and set to zero.
-ghost use Rattle.std.specs.Prelude.{◌≡◌, length, replicate};
+// A block or a record is wiped when it is taken: its part of the lent words is lent on from the middle and set to zero. Two functions, of two widths
+// and two words: over any word `fill` asks for clones proved exact, and over any width for a proof that it isn't 0.
+ghost use Rattle.std.specs.Prelude.{◌≡◌};
 ghost use Rattle.base_units.specs.Limits.{record_words, table_entries};
 ghost use Rattle.book_stock.specs.Wipe.{wiped_at};
 
 use base_units::limits::{RECORD_WORDS, TABLE_ENTRIES};
-
-pub fn wipe_entries(part: &mut [u32])
-    ensures { part.new ≡ replicate (length part.old) 0 }
-{
-    let mut i = 0;
-    while i < part.len() {
-        part[i] = 0;
-        i += 1;
-    }
-}
-
-pub fn wipe_words(part: &mut [u64])
-    ensures { part.new ≡ replicate (length part.old) 0 }
-{
-    let mut i = 0;
-    while i < part.len() {
-        part[i] = 0;
-        i += 1;
-    }
-}
 
 // Wipes the entries of a block; a block that the stock lacks does nothing.
 pub fn wipe_block(entries: &mut [u32], block: usize)
@@ -32,7 +13,7 @@ pub fn wipe_block(entries: &mut [u32], block: usize)
     if block < entries.len() / TABLE_ENTRIES {
         let from = block * TABLE_ENTRIES;
         let to = from + TABLE_ENTRIES;
-        wipe_entries(&mut entries[from..to]);
+        entries[from..to].fill(0);
     }
 }
 
@@ -43,6 +24,6 @@ pub fn wipe_record(domains: &mut [u64], number: usize)
     if number < domains.len() / RECORD_WORDS {
         let from = number * RECORD_WORDS;
         let to = from + RECORD_WORDS;
-        wipe_words(&mut domains[from..to]);
+        domains[from..to].fill(0);
     }
 }

@@ -1,29 +1,28 @@
 -- What a plan leaves of the lent tables: an answer leaves them as they are, an edit writes what it says, and a sweep goes over every record.
-use Rattle.std.specs.Prelude.{ℕ, zero, suc, ◌+◌, ◌/◌, true, false, List, length, eqb}
+use Rattle.std.specs.Prelude.{ℕ, zero, suc, ◌+◌, ◌/◌, true, false, List, length, eqb, Some, None, Ok, Err}
 use Rattle.base_rules.specs.Basics.{choose, given}
 use Rattle.base_units.specs.Limits.{record_words, table_entries}
 use Rattle.book_stock.specs.{Bits.in_use, Bits.set_use, Wipe.wiped_at}
 use Rattle.book_ledger.specs.{Sizes.bit_of, Tables.Tables, Tables.lent, Tables.set_frame, Tables.set_page, Tables.domain_at, Tables.set_domain, Tables.set_entry}
-use Rattle.base_calls.specs.declared.Answer.{Answer, TheVariants.Done}
-use Rattle.call_plan.specs.declared.edit.{FrameEdit.FrameEdit, PageEdit.PageEdit, DomainEdit.DomainEdit, StockEdit.StockEdit, EntryEdit.EntryEdit, Edit.Edit}
-use Rattle.call_plan.specs.declared.edit.{Sweep.Sweep, Plan.Plan, Plan.TheVariants.Say, Plan.TheVariants.Do, Plan.TheVariants.Each}
-use Rattle.call_plan.specs.Edits.{with_life}
+use Rattle.base_calls.specs.{Answers.Answer, declared.Reading.TheVariants.Done}
+use Rattle.call_plan.specs.declared.edit.{StockEdit.StockEdit, Edit.Edit, Sweep.Sweep, Deed.TheVariants.Tell, Deed.TheVariants.Do, Deed.TheVariants.Each}
+use Rattle.call_plan.specs.Edits.{FrameEdit, PageEdit, DomainEdit, EntryEdit, Plan, with_life}
 
 unfoldable pub after_frame : FrameEdit → List ℕ → List ℕ
-after_frame (FrameEdit.Keep) fs = fs
-after_frame (FrameEdit.Set n f) fs = set_frame fs n f
+after_frame None fs = fs
+after_frame (Some (n, f)) fs = set_frame fs n f
 
 unfoldable pub after_page : PageEdit → List ℕ → List ℕ
-after_page (PageEdit.Keep) ds = ds
-after_page (PageEdit.Set r i n) ds = set_page ds r i n
+after_page None ds = ds
+after_page (Some (r, i, n)) ds = set_page ds r i n
 
 unfoldable pub after_domain : DomainEdit → List ℕ → List ℕ
-after_domain (DomainEdit.Keep) ds = ds
-after_domain (DomainEdit.Set r d) ds = set_domain ds r d
+after_domain None ds = ds
+after_domain (Some (r, d)) ds = set_domain ds r d
 
 unfoldable pub after_entry : EntryEdit → List ℕ → List ℕ
-after_entry (EntryEdit.Keep) es = es
-after_entry (EntryEdit.Set b i e) es = set_entry es b i e
+after_entry None es = es
+after_entry (Some (at, e)) es = set_entry es at.block at.index e
 
 -- "A record or a table is [..] wiped when taken, left as it is when given back": its in-use bit, its record and its entries
 unfoldable pub after_use : StockEdit → List ℕ → List ℕ
@@ -69,6 +68,10 @@ swept_from w st entries r (suc k) ds = swept_from w st entries (r + 1) k (swept_
 unfoldable pub swept : Sweep → List ℕ → ℕ → List ℕ → List ℕ
 swept w st entries ds = swept_from w st entries 0 (length ds / record_words) ds
 
+-- .. with the tables that it goes over
+unfoldable pub swept_record : Sweep → ℕ → Tables → Tables
+swept_record w r t = lent t.frames (swept_at w t.stock (length t.entries) r t.domains) t.stock t.entries
+
 unfoldable pub swept_tables : Sweep → Tables → Tables
 swept_tables w t = lent t.frames (swept w t.stock (length t.entries) t.domains) t.stock t.entries
 
@@ -81,6 +84,7 @@ abbrev pub carried_out : Answer → Tables → Carried
 carried_out a t = record { answer = a; tables = t }
 
 unfoldable pub carried : Tables → Plan → Carried
-carried t (Say a) = carried_out a t
-carried t (Do e) = carried_out Done (applied e t)
-carried t (Each w) = carried_out Done (swept_tables w t)
+carried t (Err r) = carried_out (Err r) t
+carried t (Ok (Tell r)) = carried_out (Ok r) t
+carried t (Ok (Do e)) = carried_out (Ok Done) (applied e t)
+carried t (Ok (Each w)) = carried_out (Ok Done) (swept_tables w t)

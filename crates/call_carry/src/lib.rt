@@ -2,49 +2,56 @@
 #![tactic(auto)]
 
 ghost use Rattle.std.specs.Prelude.{◌≡◌};
-ghost use Rattle.book_ledger.specs.Tables.{lent};
-ghost use Rattle.call_carry.specs.Carry.{after_frame, after_page, after_domain, after_use, after_record, after_block, after_entry, applied, swept_at, swept};
+ghost use Rattle.book_ledger.specs.Lent.{tables_of, SameLoans};
+ghost use Rattle.call_carry.specs.Carry.{after_frame, after_page, after_domain, after_use, after_record, after_block, after_entry, applied, swept_record, swept_tables};
 ghost use Rattle.call_carry.specs.Carry.{carried_out, carried};
 
-use base_calls::Answer;
+use base_calls::{Answer, Reading};
+use base_units::address::Pfn;
 use base_units::limits::RECORD_WORDS;
-use book_ledger::{sizes, tables};
+use book_ledger::tables;
+use book_ledger::tables::{LentMut, Slot};
+use book_ledger::words::{Domain, Entry, Frame};
 use book_stock::{bits, wipe};
-use call_plan::change;
-use call_plan::edit::{DomainEdit, Edit, EntryEdit, FrameEdit, PageEdit, Plan, StockEdit, Sweep};
+use call_plan::edit::{Deed, Edit, Plan, StockEdit, Sweep};
 
-fn apply_frame(frames: &mut [u64], e: FrameEdit)
+#[tactic(auto, unfolding(crate::specs::Carry::after_frame))]
+fn apply_frame(frames: &mut [u64], e: Option<(Pfn, Frame)>)
     ensures { frames.new ≡ after_frame e frames.old }
 {
-    if let FrameEdit::Set(n, f) = e {
+    if let Some((n, f)) = e {
         tables::put_frame(frames, n, f);
     }
 }
 
-fn apply_page(domains: &mut [u64], e: PageEdit)
+#[tactic(auto, unfolding(crate::specs::Carry::after_page))]
+fn apply_page(domains: &mut [u64], e: Option<(usize, usize, Pfn)>)
     ensures { domains.new ≡ after_page e domains.old }
 {
-    if let PageEdit::Set(rec, i, n) = e {
-        tables::put_page(domains, rec, i, n);
+    if let Some((rec, page, n)) = e {
+        tables::put_page(domains, rec, page, n);
     }
 }
 
-fn apply_domain(domains: &mut [u64], e: DomainEdit)
+#[tactic(auto, unfolding(crate::specs::Carry::after_domain))]
+fn apply_domain(domains: &mut [u64], e: Option<(usize, Domain)>)
     ensures { domains.new ≡ after_domain e domains.old }
 {
-    if let DomainEdit::Set(rec, d) = e {
+    if let Some((rec, d)) = e {
         tables::put_domain(domains, rec, d);
     }
 }
 
-fn apply_entry(entries: &mut [u32], e: EntryEdit)
+#[tactic(auto, unfolding(crate::specs::Carry::after_entry))]
+fn apply_entry(entries: &mut [u32], e: Option<(Slot, Entry)>)
     ensures { entries.new ≡ after_entry e entries.old }
 {
-    if let EntryEdit::Set(b, i, x) = e {
-        tables::put_entry(entries, b, i, x);
+    if let Some((at, x)) = e {
+        tables::put_entry(entries, at, x);
     }
 }
 
+#[tactic(auto, unfolding(crate::specs::Carry::after_use))]
 fn apply_use(stock: &mut [u64], e: StockEdit)
     ensures { stock.new ≡ after_use e stock.old }
 {
@@ -57,84 +64,73 @@ fn apply_use(stock: &mut [u64], e: StockEdit)
 }
 
 // A taken record is wiped.
+#[tactic(auto, unfolding(crate::specs::Carry::after_record))]
 fn apply_record(domains: &mut [u64], e: StockEdit)
     ensures { domains.new ≡ after_record e domains.old }
 {
-    match e {
-        StockEdit::Keep => {}
-        StockEdit::Table(_) => {}
-        StockEdit::Record(_, _, rec) => wipe::wipe_record(domains, rec),
-        StockEdit::Give(_) => {}
+    if let StockEdit::Record(_, _, rec) = e {
+        wipe::wipe_record(domains, rec);
     }
 }
 
 // A taken table, or a taken record's root, is wiped.
+#[tactic(auto, unfolding(crate::specs::Carry::after_block))]
 fn apply_block(entries: &mut [u32], e: StockEdit)
     ensures { entries.new ≡ after_block e entries.old }
 {
     match e {
-        StockEdit::Keep => {}
-        StockEdit::Table(b) => wipe::wipe_block(entries, b),
-        StockEdit::Record(_, root, _) => wipe::wipe_block(entries, root),
-        StockEdit::Give(_) => {}
+        StockEdit::Table(block) | StockEdit::Record(_, block, _) => wipe::wipe_block(
+            entries, block,
+        ),
+        StockEdit::Keep | StockEdit::Give(_) => {}
     }
 }
 
 // Of a sweep, one record; one that isn't in use is left as it is.
-fn sweep_record(domains: &mut [u64], stock: &[u64], entries: usize, w: Sweep, rec: usize)
-    ensures { domains.new ≡ swept_at w stock.now entries rec domains.old }
+fn sweep_record(t: &mut LentMut, w: Sweep, rec: usize)
+    ensures place { SameLoans t.old t.new }
+    ensures tables { tables_of t.new ≡ swept_record w rec (tables_of t.old) }
 {
-    if bits::in_use(stock, sizes::bit_of(domains.len(), entries, rec)) {
-        let d = tables::domain_at(domains, rec);
+    let lent = t.shared();
+    if bits::in_use(lent.stock, lent.bit_of(rec)) {
+        let d = tables::domain_at(lent.domains, rec);
         if d.life == w.from {
-            tables::put_domain(domains, rec, change::with_life(d, w.to));
+            tables::put_domain(t.domains, rec, Domain { life: w.to, ..d });
         }
     }
 }
 
-fn sweep_records(domains: &mut [u64], stock: &[u64], entries: usize, w: Sweep)
-    ensures { domains.new ≡ swept w stock.now entries domains.old }
+fn sweep(t: &mut LentMut, w: Sweep)
+    ensures place { SameLoans t.old t.new }
+    ensures tables { tables_of t.new ≡ swept_tables w (tables_of t.old) }
 {
-    let records = domains.len() / RECORD_WORDS;
-    let mut rec = 0;
-    while rec < records {
-        sweep_record(domains, stock, entries, w, rec);
-        rec += 1;
+    for rec in 0..t.domains.len() / RECORD_WORDS {
+        sweep_record(t, w, rec);
     }
 }
 
-fn apply(frames: &mut [u64], domains: &mut [u64], stock: &mut [u64], entries: &mut [u32], e: Edit)
-    ensures { lent frames.new domains.new stock.new entries.new
-        ≡ applied e (lent frames.old domains.old stock.old entries.old) }
+fn apply(t: &mut LentMut, e: Edit)
+    ensures place { SameLoans t.old t.new }
+    ensures tables { tables_of t.new ≡ applied e (tables_of t.old) }
 {
-    let frame = e.frame;
-    let page = e.page;
-    let domain = e.domain;
-    let block = e.stock;
-    let entry = e.entry;
-    apply_frame(frames, frame);
-    apply_use(stock, block);
-    apply_record(domains, block);
-    apply_domain(domains, domain);
-    apply_page(domains, page);
-    apply_block(entries, block);
-    apply_entry(entries, entry);
+    apply_frame(t.frames, e.frame);
+    apply_use(t.stock, e.stock);
+    apply_record(t.domains, e.stock);
+    apply_domain(t.domains, e.domain);
+    apply_page(t.domains, e.page);
+    apply_block(t.entries, e.stock);
+    apply_entry(t.entries, e.entry);
 }
 
-pub fn carry(
-    frames: &mut [u64],
-    domains: &mut [u64],
-    stock: &mut [u64],
-    entries: &mut [u32],
-    p: Plan,
-) -> Answer
-    ensures { carried_out result (lent frames.new domains.new stock.new entries.new)
-        ≡ carried (lent frames.old domains.old stock.old entries.old) p }
+pub fn carry(t: &mut LentMut, p: Plan) -> Answer
+    ensures place { SameLoans t.old t.new }
+    ensures tables { carried_out result (tables_of t.new) ≡ carried (tables_of t.old) p }
 {
-    match p {
-        Plan::Say(a) => return a,
-        Plan::Do(e) => apply(frames, domains, stock, entries, e),
-        Plan::Each(w) => sweep_records(domains, stock, entries.len(), w),
+    let deed = p?;
+    match deed {
+        Deed::Tell(reading) => return Ok(reading),
+        Deed::Do(e) => apply(t, e),
+        Deed::Each(w) => sweep(t, w),
     }
-    Answer::Done
+    Ok(Reading::Done)
 }

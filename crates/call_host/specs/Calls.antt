@@ -1,13 +1,13 @@
 -- Every host call on any lent tables and gauge: answer 13, then the call's own rule, and the gauge after an accepted call.
-use Rattle.base_rules.specs.Basics.{ℕ, List, length, replicate, eqb, choose, need, given}
-use Rattle.std.specs.Prelude.{Float}
+use Rattle.base_rules.specs.Basics.{ℕ, List, length, eqb, choose, need, given}
+use Rattle.std.specs.Prelude.{Float, Ok, Err}
 use Rattle.base_units.specs.declared.address.Hpa.{Hpa}
 use Rattle.book_gauge.specs.{Marks.marks_ok, Update.after, Update.with_marks, Update.fresh_gauge, declared.Gauge.Gauge}
-use Rattle.book_ledger.specs.{Count.used_frames, Sizes.sizes_ok, Tables.Tables, Tables.lent}
+use Rattle.book_ledger.specs.{Count.used_frames, Sizes.sizes_ok, Tables.Tables, Lent.zeroed}
 use Rattle.book_range.specs.Range.{lent_ok}
-use Rattle.base_calls.specs.{Answers.values_of, Operands.NONE}
-use Rattle.base_calls.specs.declared.{Answer.Answer, Answer.TheVariants.Done, Answer.TheVariants.No, Call.Call}
-use Rattle.call_plan.specs.declared.edit.Plan.{Plan}
+use Rattle.base_calls.specs.{Answers.Answer, Answers.values_of, Operands.NONE}
+use Rattle.base_calls.specs.declared.{Reading.TheVariants.Done, Refusal.TheVariants.No, Fault.Fault, Call.Call}
+use Rattle.call_plan.specs.Edits.{Plan}
 use Rattle.call_carry.specs.Carry.{Carried, carried}
 use Rattle.call_domains.specs.Domains as domains
 use Rattle.call_adds.specs.Adds as adds
@@ -63,26 +63,23 @@ rule_of base t g c = settled g (carried t (plan_of base t c))
 -- "Order: 13, ..": the lent tables, the lent gauge's marks, then the call's own rule
 unfoldable pub call_of : Hpa → Tables → Gauge → Call → Outcome
 call_of base t g c =
-    need (lent_ok base t) (outcome (No 13 NONE) t g) (
-    need (marks_ok g.raise g.clear (length t.frames)) (outcome (No 13 NONE) t g)
+    need (lent_ok base t) (outcome (Err (No Fault.Range NONE)) t g) (
+    need (marks_ok g.raise g.clear (length t.frames)) (outcome (Err (No Fault.Range NONE)) t g)
     (rule_of base t g c))
 
 -- "Reset makes all frames NDA, all stock unused and every stored number zero; it reads no lent word, and answers 13 for sizes or base,
 -- else 0." "Reset: fill +0, lamp out, raise mark 1, clear mark 0."
-abbrev zeros : List ℕ → List ℕ
-zeros l = replicate (length l) 0
-
 unfoldable pub reset_of : Hpa → Tables → Gauge → Outcome
 reset_of base t g =
-    need (sizes_ok base (length t.frames) (length t.domains) (length t.stock) (length t.entries)) (outcome (No 13 NONE) t g)
-    (outcome Done (lent (zeros t.frames) (zeros t.domains) (zeros t.stock) (zeros t.entries)) fresh_gauge)
+    need (sizes_ok base (length t.frames) (length t.domains) (length t.stock) (length t.entries)) (outcome (Err (No Fault.Range NONE)) t g)
+    (outcome (Ok Done) (zeroed t) fresh_gauge)
 
 -- "Setting the marks stores them and the fill, and lights it exactly if fill is at or above raise; it reads nothing of the old gauge, which
 -- can't give 13 there."
 unfoldable pub marks_of : Hpa → Tables → Gauge → Float → Float → Outcome
 marks_of base t g raise clear =
-    need (lent_ok base t) (outcome (No 13 NONE) t g) (
-    need (marks_ok raise clear (length t.frames)) (outcome (No 1 NONE) t g) (
+    need (lent_ok base t) (outcome (Err (No Fault.Range NONE)) t g) (
+    need (marks_ok raise clear (length t.frames)) (outcome (Err (No Fault.Operand NONE)) t g) (
     given (used_frames t.frames) λ used.
     given (with_marks raise clear used (length t.frames)) λ now.
-    outcome Done t now))
+    outcome (Ok Done) t now))

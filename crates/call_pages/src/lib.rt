@@ -2,122 +2,91 @@
 #![tactic(auto)]
 
 ghost use Rattle.std.specs.Prelude.{◌≡◌};
-ghost use Rattle.book_ledger.specs.Tables.{lent};
+ghost use Rattle.book_ledger.specs.Lent.{tables_in};
 ghost use Rattle.call_pages.specs.Pages.{reclaim_tdr, reclaim_child, reclaim_at, reclaim_plan, readpage_plan};
 
-use base_calls::Answer;
+use base_calls::{Fault, Reading, Refusal};
 use base_units::address;
 use base_units::address::{Hpa, Pfn};
 use book_ledger::codes::{EPT, NDA, TDCX, TDR, TEARDOWN};
 use book_ledger::tables;
+use book_ledger::tables::Lent;
 use book_ledger::words::Frame;
 use book_stock::bits;
-use call_plan::edit::{DomainEdit, Edit, EntryEdit, FrameEdit, PageEdit, Plan, StockEdit};
-use call_plan::lookup::{Lookup, Operand, Subject};
+use call_plan::change::FREED;
+use call_plan::edit::{Deed, Edit, KEEPS, Plan, StockEdit};
+use call_plan::lookup::Subject;
 use call_plan::{change, lookup};
 
 // A TDR in teardown without children, whose record is given back.
 fn reclaim_tdr(x: Subject) -> Plan
     ensures { result ≡ reclaim_tdr x }
 {
-    let d = x.dom;
-    if d.life != TEARDOWN {
-        return Plan::Say(Answer::No(3, 0));
+    if x.dom.life != TEARDOWN {
+        return Err(Refusal::No(Fault::Life, 0));
     }
-    if d.children != 0 {
-        return Plan::Say(Answer::No(9, 0));
+    if x.dom.children != 0 {
+        return Err(Refusal::No(Fault::Remains, 0));
     }
-    let tdr = x.tdr;
-    Plan::Do(Edit {
-        frame: FrameEdit::Set(
-            tdr,
-            Frame {
-                kind: NDA,
-                owner: Pfn(0),
-                number: 0,
-                epoch: 0,
-                size: 0,
-            },
-        ),
-        page: PageEdit::Keep,
-        domain: DomainEdit::Keep,
+    Ok(Deed::Do(Edit {
+        frame: Some((x.tdr, FREED)),
         stock: StockEdit::Give(x.bit),
-        entry: EntryEdit::Keep,
-    })
+        ..KEEPS
+    }))
 }
 
 // A frame of the owner x, in teardown; an EPT's table is given back.
 fn reclaim_child(stock: &[u64], x: Subject, n: Pfn, f: Frame) -> Plan
     ensures { result ≡ reclaim_child stock.now x n f }
 {
-    let d = x.dom;
-    if d.life != TEARDOWN {
-        return Plan::Say(Answer::No(3, 0));
+    if x.dom.life != TEARDOWN {
+        return Err(Refusal::No(Fault::Life, 0));
     }
     if f.kind != EPT {
-        return change::loses(x, n, StockEdit::Keep, EntryEdit::Keep);
+        return change::loses(x, n, StockEdit::Keep, None);
     }
     let table = f.number as usize;
     if !bits::in_use(stock, table) {
-        return Plan::Say(Answer::No(14, 0));
+        return Err(Refusal::No(Fault::Link, 0));
     }
-    change::loses(x, n, StockEdit::Give(table), EntryEdit::Keep)
+    change::loses(x, n, StockEdit::Give(table), None)
 }
 
-// Frame n, whatever it is.
-fn reclaim_at(frames: &[u64], domains: &[u64], stock: &[u64], entries: &[u32], n: Pfn) -> Plan
-    ensures { result ≡ reclaim_at (lent frames.now domains.now stock.now entries.now) n }
+// Frame n, whatever it is. Of a TDR that is not its record's, or an owner that isn't a TDR, nothing can be reclaimed (14).
+fn reclaim_at(t: &Lent, n: Pfn) -> Plan
+    ensures { result ≡ reclaim_at (tables_in t.now) n }
 {
-    let f = tables::frame_at(frames, n);
+    let f = tables::frame_at(t.frames, n);
     if f.kind == NDA {
-        return Plan::Say(Answer::No(2, 0));
+        return Err(Refusal::No(Fault::Kind, 0));
     }
     if f.kind == TDR {
-        return match lookup::find_domain(frames, domains, stock, entries, n) {
-            Lookup::Not(_) => Plan::Say(Answer::No(14, 0)),
-            Lookup::Is(x) => reclaim_tdr(x),
+        let Ok(x) = lookup::find_domain(t, n) else {
+            return Err(Refusal::No(Fault::Link, 0));
         };
+        return reclaim_tdr(x);
     }
-    match lookup::find_domain(frames, domains, stock, entries, f.owner) {
-        Lookup::Not(_) => Plan::Say(Answer::No(14, 0)),
-        Lookup::Is(x) => reclaim_child(stock, x, n, f),
-    }
+    let Ok(x) = lookup::find_domain(t, f.owner) else {
+        return Err(Refusal::No(Fault::Link, 0));
+    };
+    reclaim_child(t.stock, x, n, f)
 }
 
-pub fn plan_reclaim(
-    base: Hpa,
-    frames: &[u64],
-    domains: &[u64],
-    stock: &[u64],
-    entries: &[u32],
-    hpa: Hpa,
-) -> Plan
-    ensures { result ≡ reclaim_plan base (lent frames.now domains.now stock.now entries.now) hpa }
+pub fn plan_reclaim(t: &Lent, hpa: Hpa) -> Plan
+    ensures { result ≡ reclaim_plan t.now.base (tables_in t.now) hpa }
 {
-    match lookup::frame_operand(base, frames.len(), hpa, 0) {
-        Operand::Bad(k) => Plan::Say(Answer::No(1, k)),
-        Operand::Frame(n) => reclaim_at(frames, domains, stock, entries, n),
-    }
+    let n = lookup::frame_operand(t, hpa, 0)?;
+    reclaim_at(t, n)
 }
 
-pub fn plan_readpage(
-    base: Hpa,
-    frames: &[u64],
-    domains: &[u64],
-    stock: &[u64],
-    entries: &[u32],
-    hpa: Hpa,
-) -> Plan
-    ensures { result ≡ readpage_plan base (lent frames.now domains.now stock.now entries.now) hpa }
+pub fn plan_readpage(t: &Lent, hpa: Hpa) -> Plan
+    ensures { result ≡ readpage_plan t.now.base (tables_in t.now) hpa }
 {
-    match lookup::frame_operand(base, frames.len(), hpa, 0) {
-        Operand::Bad(k) => Plan::Say(Answer::No(1, k)),
-        Operand::Frame(n) => {
-            let f = tables::frame_at(frames, n);
-            if f.kind < TDCX {
-                return Plan::Say(Answer::Page(f.kind, Hpa(0)));
-            }
-            Plan::Say(Answer::Page(f.kind, address::hpa_of(base, f.owner)))
-        }
+    let n = lookup::frame_operand(t, hpa, 0)?;
+    let f = tables::frame_at(t.frames, n);
+    if f.kind < TDCX {
+        return Ok(Deed::Tell(Reading::Page(f.kind, Hpa(0))));
     }
+    let owner = address::hpa_of(t.base, f.owner);
+    Ok(Deed::Tell(Reading::Page(f.kind, owner)))
 }

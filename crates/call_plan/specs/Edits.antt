@@ -1,9 +1,33 @@
 -- What an accepted call writes, in the paper's words: an edit of a frame, of a control page, of a domain's scalars, of the stock and of an
 -- entry, each or none.
+use Rattle.std.specs.Prelude.{Option, Some, Result}
 use Rattle.base_rules.specs.Basics.{ℕ}
 use Rattle.base_units.specs.declared.address.Pfn.{Pfn}
 use Rattle.book_ledger.specs.Codes.{NDA, TDR, TDCX, EPT, REG, FREE}
-use Rattle.book_ledger.specs.declared.words.{Frame.Frame, Domain.Domain, Entry.Entry}
+use Rattle.book_ledger.specs.declared.{words.Frame.Frame, words.Domain.Domain, words.Entry.Entry, tables.Slot.Slot}
+use Rattle.book_ledger.specs.Tables.{slot}
+use Rattle.base_calls.specs.declared.Refusal.{Refusal}
+use Rattle.call_plan.specs.declared.edit.Deed.{Deed}
+
+-- what becomes of a frame; of a record's control page, by its place in the list; of a record's scalars; of an entry
+abbrev pub FrameEdit : Type 0
+FrameEdit = Option (Pfn × Frame)
+
+abbrev pub PageEdit : Type 0
+PageEdit = Option (ℕ × ℕ × Pfn)
+
+abbrev pub DomainEdit : Type 0
+DomainEdit = Option (ℕ × Domain)
+
+abbrev pub EntryEdit : Type 0
+EntryEdit = Option (Slot × Entry)
+
+abbrev pub to_entry : ℕ → ℕ → Entry → EntryEdit
+to_entry b i e = Some (slot b i, e)
+
+-- what a call comes to: its deed, or the refusal
+abbrev pub Plan : Type 0
+Plan = Result Deed Refusal
 
 -- ---- frames
 abbrev none : Pfn

@@ -1,37 +1,34 @@
 -- Whom a call is about: the operands' 1, D's 2 and its record's 14, then 3, 4 and 5.
-use Rattle.base_rules.specs.Basics.{ℕ, Bool, List, length, eqb, need, given}
+use Rattle.std.specs.Prelude.{Result, Ok, Err}
+use Rattle.base_rules.specs.Basics.{ℕ, Bool, List, length, eqb, need, given, and_then, on_option, on_result}
 use Rattle.base_units.specs.{Limits.between, Limits.control_pages, Address.frame_of}
 use Rattle.base_levels.specs.Level.{top_level, level_ok, gpa_fits}
-use Rattle.base_units.specs.declared.address.{Hpa.Hpa, Gpa.Gpa, Pfn.Pfn, Place.Place}
+use Rattle.base_units.specs.declared.address.{Hpa.Hpa, Gpa.Gpa, Pfn.Pfn}
 use Rattle.book_stock.specs.Bits.{in_use}
 use Rattle.book_ledger.specs.{Codes.NDA, Codes.TDR, Codes.CONFIGURED, Codes.INITIALIZED, Codes.RUNNABLE, Sizes.bit_of, Sizes.root_of}
 use Rattle.book_ledger.specs.Tables.{Tables, frame_at, domain_at}
-use Rattle.base_calls.specs.{declared.Answer.Answer, declared.Answer.TheVariants.No, Operands.D, Operands.GPA, Operands.LEVEL}
-use Rattle.call_plan.specs.declared.lookup.{Operand.Operand, Operand.TheVariants.Frame, Operand.TheVariants.Bad, Subject.Subject, Lookup.Lookup}
-use Rattle.call_plan.specs.declared.lookup.{Lookup.TheVariants.Is, Lookup.TheVariants.Not, Parties.Parties}
+use Rattle.base_calls.specs.{declared.Refusal.Refusal, declared.Refusal.TheVariants.No, declared.Fault.Fault, Operands.D, Operands.GPA, Operands.LEVEL}
+use Rattle.call_plan.specs.declared.lookup.Subject.{Subject}
 
-unfoldable pub on_place : {A : Type 0} → Place → A → (Pfn → A) → A
-on_place (Place.Outside) z k = z
-on_place (Place.At n) z k = k n
+-- an operand's frame, D, and D with F's frame; or the refusal
+abbrev pub Operand : Type 0
+Operand = Result Pfn Refusal
 
-unfoldable pub on_operand : {A : Type 0} → Operand → (ℕ → A) → (Pfn → A) → A
-on_operand (Bad k) z next = z k
-on_operand (Frame n) z next = next n
+abbrev pub Lookup : Type 0
+Lookup = Result Subject Refusal
 
-unfoldable pub on_lookup : {A : Type 0} → Lookup → (Answer → A) → (Subject → A) → A
-on_lookup (Not a) z k = z a
-on_lookup (Is x) z k = k x
+abbrev pub Parties : Type 0
+Parties = Result (Subject × Pfn) Refusal
 
-unfoldable pub on_parties : {A : Type 0} → Parties → (Answer → A) → (Subject → Pfn → A) → A
-on_parties (Parties.Not a) z k = z a
-on_parties (Parties.Are x m) z k = k x m
+abbrev pub on_parties : {A : Type 0} → Parties → (Refusal → A) → (Subject → Pfn → A) → A
+on_parties p z k = on_result p z λ q. k q.0 q.1
 
 -- ---- answer 1: operand k is an hpa; frame 0 stands for F where a call has none
 unfoldable pub frame_operand : Hpa → ℕ → Hpa → ℕ → Operand
-frame_operand base frames hpa k = on_place (frame_of base frames hpa) (Bad k) Frame
+frame_operand base frames hpa k = on_option (frame_of base frames hpa) (Err (No Fault.Operand k)) Ok
 
 abbrev pub no_frame : Operand
-no_frame = Frame (record { 0 = 0 })
+no_frame = Ok (record { 0 = 0 })
 
 -- ---- F's 2: "F isn't NDA where it must be"
 unfoldable pub is_nda : List ℕ → Pfn → Bool
@@ -47,35 +44,35 @@ root_in t r = root_of (length t.domains) (length t.entries) r
 unfoldable pub domain_for : Tables → Pfn → Lookup
 domain_for t n =
     given (frame_at t.frames n) λ f.
-    need (eqb f.kind TDR) (Not (No 2 D)) (
+    need (eqb f.kind TDR) (Err (No Fault.Kind D)) (
     given (bit_in t f.number) λ bit.
-    need (in_use t.stock bit) (Not (No 14 D)) (
+    need (in_use t.stock bit) (Err (No Fault.Link D)) (
     given (root_in t f.number) λ root.
     given (domain_at t.domains f.number) λ d.
-    Is (record { tdr = n; rec = f.number; bit = bit; root = root; top = top_level; dom = d })))
+    Ok (record { tdr = n; rec = f.number; bit = bit; root = root; top = top_level; dom = d })))
 
 -- D's 1 comes before those of the other operands, which come before D's 2
 unfoldable pub parties_for : Hpa → Tables → Hpa → Operand → Parties
 parties_for base t d f =
-    on_operand (frame_operand base (length t.frames) d D) (λ k. Parties.Not (No 1 k)) λ n.
-    on_operand f (λ k. Parties.Not (No 1 k)) λ m.
-    on_lookup (domain_for t n) Parties.Not λ x.
-    Parties.Are x m
+    and_then (frame_operand base (length t.frames) d D) λ n.
+    and_then f λ m.
+    and_then (domain_for t n) λ x.
+    Ok (x, m)
 
 -- then 3 (keys configured), 4 (four control pages), 5 (the op state from `least` to `most`)
 unfoldable pub built_for : Hpa → Tables → Hpa → Operand → ℕ → ℕ → Parties
 built_for base t d f least most =
-    on_parties (parties_for base t d f) Parties.Not λ x m.
-    need (eqb x.dom.life CONFIGURED) (Parties.Not (No 3 D)) (
-    need (eqb x.dom.listed control_pages) (Parties.Not (No 4 D)) (
-    need (between least x.dom.op most) (Parties.Not (No 5 D))
-    (Parties.Are x m)))
+    on_parties (parties_for base t d f) Err λ x m.
+    need (eqb x.dom.life CONFIGURED) (Err (No Fault.Life D)) (
+    need (eqb x.dom.listed control_pages) (Err (No Fault.Pages D)) (
+    need (between least x.dom.op most) (Err (No Fault.OpState D))
+    (Ok (x, m))))
 
 -- ---- the calls on a tree: a gpa that fits its level (1), a level from `lowest` on (1), then F's 1
 unfoldable pub spot_operand : Gpa → ℕ → ℕ → Operand → Operand
 spot_operand gpa level lowest f =
-    need (gpa_fits gpa level) (Bad GPA) (
-    need (level_ok lowest level) (Bad LEVEL)
+    need (gpa_fits gpa level) (Err (No Fault.Operand GPA)) (
+    need (level_ok lowest level) (Err (No Fault.Operand LEVEL))
     f)
 
 unfoldable pub spot_for : Hpa → Tables → Hpa → Gpa → ℕ → ℕ → Operand → ℕ → ℕ → Parties

@@ -1,132 +1,86 @@
 // What a domain's record becomes: its scalars alone, or with a frame gained or lost.
 ghost use Rattle.std.specs.Prelude.{◌≡◌};
-ghost use Rattle.call_plan.specs.Edits.{with_counts, with_life, with_op, with_epoch};
 ghost use Rattle.call_plan.specs.Changes.{become, gain, lose};
 
-use crate::edit::{DomainEdit, Edit, EntryEdit, FrameEdit, PageEdit, Plan, StockEdit};
+use crate::edit::{Deed, Edit, KEEPS, Plan, StockEdit};
 use crate::lookup::Subject;
-use base_calls::Answer;
+use base_calls::{Fault, Refusal};
 use base_units::address::Pfn;
 use book_ledger::codes::NDA;
-use book_ledger::words::{Domain, Frame};
+use book_ledger::tables::Slot;
+use book_ledger::words::{Domain, Entry, Frame};
+
+// "A frame that becomes NDA loses owner, epoch and numbers (zero)."
+pub const FREED: Frame = Frame {
+    kind: NDA,
+    owner: Pfn(0),
+    number: 0,
+    epoch: 0,
+    size: 0,
+};
+
+// A frame that a domain gains: what it becomes, and where it is entered (the page list and its length, the stock, the tree).
+#[derive(Clone, Copy)]
+pub struct Gain {
+    pub frame: Pfn,
+    pub becomes: Frame,
+    pub page: Option<(usize, usize, Pfn)>,
+    pub listed: u64,
+    pub stock: StockEdit,
+    pub entry: Option<(Slot, Entry)>,
+}
 
 // The domain's scalars change, and nothing else.
 pub fn becomes(x: Subject, d: Domain) -> Plan
     ensures { result ≡ become x d }
 {
-    Plan::Do(Edit {
-        frame: FrameEdit::Keep,
-        page: PageEdit::Keep,
-        domain: DomainEdit::Set(x.rec, d),
-        stock: StockEdit::Keep,
-        entry: EntryEdit::Keep,
-    })
+    Ok(Deed::Do(Edit {
+        domain: Some((x.rec, d)),
+        ..KEEPS
+    }))
 }
 
-// The domain x gains frame n, which becomes f.
-pub fn gains(
-    frames: usize,
-    x: Subject,
-    n: Pfn,
-    f: Frame,
-    page: PageEdit,
-    listed: u64,
-    stock: StockEdit,
-    entry: EntryEdit,
-) -> Plan
-    ensures { result ≡ gain frames x (record { frame = n; becomes = f; page = page; listed = listed; stock = stock; entry = entry }) }
+// The domain x gains a frame. No domain has more than the window's.
+pub fn gains(frames: usize, x: Subject, g: Gain) -> Plan
+    ensures { result ≡ gain frames x g }
 {
-    let d = x.dom;
-    if d.children >= (frames as u64) {
-        return Plan::Say(Answer::No(14, 0));
+    if x.dom.children >= (frames as u64) {
+        return Err(Refusal::No(Fault::Link, 0));
     }
-    Plan::Do(Edit {
-        frame: FrameEdit::Set(n, f),
-        page,
-        domain: DomainEdit::Set(x.rec, with_counts(d, listed, d.children + 1)),
-        stock,
-        entry,
-    })
+    Ok(Deed::Do(Edit {
+        frame: Some((g.frame, g.becomes)),
+        page: g.page,
+        domain: Some((
+            x.rec,
+            Domain {
+                listed: g.listed,
+                children: x.dom.children + 1,
+                ..x.dom
+            },
+        )),
+        stock: g.stock,
+        entry: g.entry,
+    }))
 }
 
 // The domain x loses frame n, which becomes NDA.
-pub fn loses(x: Subject, n: Pfn, stock: StockEdit, entry: EntryEdit) -> Plan
+pub fn loses(x: Subject, n: Pfn, stock: StockEdit, entry: Option<(Slot, Entry)>) -> Plan
     ensures { result ≡ lose x n stock entry }
 {
-    let d = x.dom;
-    if d.children == 0 {
-        return Plan::Say(Answer::No(14, 0));
+    if x.dom.children == 0 {
+        return Err(Refusal::No(Fault::Link, 0));
     }
-    Plan::Do(Edit {
-        frame: FrameEdit::Set(
-            n,
-            Frame {
-                kind: NDA,
-                owner: Pfn(0),
-                number: 0,
-                epoch: 0,
-                size: 0,
+    Ok(Deed::Do(Edit {
+        frame: Some((n, FREED)),
+        page: None,
+        domain: Some((
+            x.rec,
+            Domain {
+                children: x.dom.children - 1,
+                ..x.dom
             },
-        ),
-        page: PageEdit::Keep,
-        domain: DomainEdit::Set(x.rec, with_counts(d, d.listed, d.children - 1)),
+        )),
         stock,
         entry,
-    })
-}
-
-pub fn with_counts(d: Domain, listed: u64, children: u64) -> Domain
-    ensures { result ≡ with_counts d listed children }
-{
-    Domain {
-        key: d.key,
-        life: d.life,
-        op: d.op,
-        listed,
-        children,
-        epoch: d.epoch,
-        width: d.width,
-    }
-}
-
-pub fn with_life(d: Domain, life: u64) -> Domain
-    ensures { result ≡ with_life d life }
-{
-    Domain {
-        key: d.key,
-        life,
-        op: d.op,
-        listed: d.listed,
-        children: d.children,
-        epoch: d.epoch,
-        width: d.width,
-    }
-}
-
-pub fn with_op(d: Domain, op: u64) -> Domain
-    ensures { result ≡ with_op d op }
-{
-    Domain {
-        key: d.key,
-        life: d.life,
-        op,
-        listed: d.listed,
-        children: d.children,
-        epoch: d.epoch,
-        width: d.width,
-    }
-}
-
-pub fn with_epoch(d: Domain, epoch: u64) -> Domain
-    ensures { result ≡ with_epoch d epoch }
-{
-    Domain {
-        key: d.key,
-        life: d.life,
-        op: d.op,
-        listed: d.listed,
-        children: d.children,
-        epoch,
-        width: d.width,
-    }
+    }))
 }

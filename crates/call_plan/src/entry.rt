@@ -1,65 +1,41 @@
 // The entry that a call is about, and what the calls ask of it.
 ghost use Rattle.std.specs.Prelude.{◌≡◌};
-ghost use Rattle.book_ledger.specs.Tables.{lent};
+ghost use Rattle.book_ledger.specs.Lent.{tables_in};
 ghost use Rattle.call_plan.specs.Entries.{walk_of, entry_for, blocked_state, unblocked_state, free_at, table_empty};
 
 use crate::lookup::Subject;
-use base_calls::Answer;
+use base_calls::{Fault, Refusal};
 use base_units::address::Gpa;
-use base_units::limits;
-use base_units::limits::TABLE_ENTRIES;
+use base_units::limits::{Limits, TABLE_ENTRIES};
 use book_ledger::codes::{BLOCKED, FREE, MAPPED, NL_BLOCKED, NL_MAPPED, PENDING, PENDING_BLOCKED};
 use book_ledger::tables;
+use book_ledger::tables::{Lent, Slot};
 use book_ledger::words::Entry;
-use book_walk::Walk;
-
-// An entry, with its block and index, or why there is none to be had.
-#[derive(Clone, Copy)]
-pub enum Reach {
-    At(usize, usize, Entry),
-    Not(Answer),
-}
+use book_walk::Stray;
 
 // The walk of the domain x from its root.
-pub fn walk_of(
-    frames: &[u64],
-    domains: &[u64],
-    stock: &[u64],
-    entries: &[u32],
-    x: Subject,
-    gpa: Gpa,
-    level: usize,
-) -> Walk
-    ensures { result ≡ walk_of (lent frames.now domains.now stock.now entries.now) x gpa level }
+pub fn walk_of(t: &Lent, x: Subject, gpa: Gpa, level: usize) -> Result<Slot, Stray>
+    ensures { result ≡ walk_of (tables_in t.now) x gpa level }
 {
-    book_walk::walk_from(frames, stock, entries, x.tdr, gpa, level, x.top, x.root)
+    book_walk::walk_from(t, x.tdr, gpa, level, x.top, x.root)
 }
 
-// The entry of a gpa at a level, its state from `least` to `most`.
+// The entry of a gpa at a level, in one of the states.
 pub fn entry_for(
-    frames: &[u64],
-    domains: &[u64],
-    stock: &[u64],
-    entries: &[u32],
+    t: &Lent,
     x: Subject,
     gpa: Gpa,
     level: usize,
-    least: u64,
-    most: u64,
-) -> Reach
-    ensures { result ≡ entry_for (lent frames.now domains.now stock.now entries.now) x gpa level least most }
+    states: Limits,
+) -> Result<(Slot, Entry), Refusal>
+    ensures { result ≡ entry_for (tables_in t.now) x gpa level states.least states.most }
 {
-    match walk_of(frames, domains, stock, entries, x, gpa, level) {
-        Walk::Stopped(l, s) => Reach::Not(Answer::Stop(6, l, s)),
-        Walk::Foreign => Reach::Not(Answer::No(14, 0)),
-        Walk::At(b, i) => {
-            let e = tables::entry_at(entries, b, i);
-            if !limits::is_between(least, e.state, most) {
-                return Reach::Not(Answer::Stop(7, level, e.state));
-            }
-            Reach::At(b, i, e)
-        }
+    let at = walk_of(t, x, gpa, level)?;
+    let e = tables::entry_at(t.entries, at);
+    if !states.allow(e.state) {
+        return Err(Refusal::Stop(Fault::State, level, e.state));
     }
+    Ok((at, e))
 }
 
 pub fn blocked_state(state: u64) -> u64
@@ -86,22 +62,14 @@ pub fn unblocked_state(state: u64) -> u64
     PENDING
 }
 
-fn free_at(entries: &[u32], block: usize, index: usize) -> bool
-    ensures { result ≡ free_at entries.now block index }
+fn free_at(entries: &[u32], at: Slot) -> bool
+    ensures { result ≡ free_at entries.now at.block at.index }
 {
-    let e = tables::entry_at(entries, block, index);
-    e.state == FREE
+    tables::entry_at(entries, at).state == FREE
 }
 
 pub fn table_empty(entries: &[u32], block: usize) -> bool
     ensures { result ≡ table_empty entries.now block }
 {
-    let mut index = 0;
-    while index < TABLE_ENTRIES {
-        if !free_at(entries, block, index) {
-            return false;
-        }
-        index += 1;
-    }
-    true
+    (0..TABLE_ENTRIES).all(|index| free_at(entries, Slot { block, index }))
 }

@@ -4,16 +4,13 @@ use Rattle.base_rules.proofs.Facts.{ap, ◌∙◌}
 use Rattle.base_units.specs.declared.address.{Hpa.Hpa, Pfn.Pfn}
 use Rattle.book_gauge.specs.declared.Gauge.{Gauge}
 use Rattle.book_ledger.specs.{Count.one_used, Tables.Tables, Tables.frame_at, declared.words.Frame.Frame}
-use Rattle.base_calls.specs.declared.{Answer.Answer, Ask.Ask, Ask.TheVariants.Reset, Call.Call}
-use Rattle.call_plan.specs.declared.edit.{FrameEdit.FrameEdit, Plan.Plan}
+use Rattle.base_calls.specs.Answers.{Answer}
+use Rattle.base_calls.specs.declared.{Ask.Ask, Ask.TheVariants.Reset, Call.Call}
+use Rattle.call_plan.specs.Edits.{FrameEdit, Plan}
 use Rattle.call_carry.specs.Carry.{carried_out, carried}
 use Rattle.call_host.specs.Calls.{outcome, plan_of, reset_of}
-use Rattle.call_run.specs.Runs.{is_used, used_after, used_by, Next, next, gauge_with, known_reset, rule_with, next_of}
+use Rattle.call_run.specs.Runs.{used_after, used_by, Next, next, gauge_with, known_reset, rule_with, next_of}
 use Rattle.call_run.specs.declared.Run.{Run}
-
-pub was_is : (fs : List ℕ) (n : Pfn) {z : ℕ} {f : Frame} → f ≡ frame_at fs n → z ≡ is_used f → z ≡ one_used fs n.0
-unfolding one_used is_used
-was_is fs n e h = h ∙ ap is_used e
 
 pub edit_is : (fs : List ℕ) (used : ℕ) {z : ℕ} {e k : FrameEdit} → e ≡ k → z ≡ used_after k fs used → z ≡ used_after e fs used
 edit_is fs used e h = rw e h

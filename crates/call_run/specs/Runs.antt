@@ -1,22 +1,20 @@
 -- Request 11: "A run of calls on tables that nobody else touches in between may check once at its start." What a run knows from that check on, and
 -- what each ask then comes to: answer 13 is read off what is known, and the count of used frames goes along by value.
-use Rattle.std.specs.Prelude.{ℕ, ◌+◌, ◌-◌, ◌^◌, min, true, false, List, length, eqb, Float}
+use Rattle.std.specs.Prelude.{ℕ, ◌+◌, ◌-◌, ◌^◌, min, true, false, List, length, eqb, Float, Some, None, Ok, Err}
 use Rattle.base_rules.specs.Basics.{choose, need, given}
 use Rattle.base_units.specs.declared.address.Hpa.{Hpa}
 use Rattle.book_gauge.specs.{Marks.marks_ok, Update.after, Update.with_marks, declared.Gauge.Gauge}
-use Rattle.book_ledger.specs.{Codes.NDA, Count.one_used, Count.used_frames, Tables.Tables, declared.words.Frame.Frame}
+use Rattle.book_ledger.specs.{Count.is_used, Count.one_used, Count.used_frames, Tables.Tables}
 use Rattle.book_range.specs.Range.{lent_ok}
-use Rattle.base_calls.specs.{Answers.values_of, Operands.NONE}
-use Rattle.base_calls.specs.declared.{Answer.Answer, Answer.TheVariants.Done, Answer.TheVariants.No, Ask.Ask, Call.Call}
-use Rattle.call_plan.specs.declared.edit.{FrameEdit.FrameEdit, Plan.Plan, Plan.TheVariants.Say, Plan.TheVariants.Do, Plan.TheVariants.Each}
+use Rattle.base_calls.specs.{Answers.Answer, Answers.values_of, Operands.NONE}
+use Rattle.base_calls.specs.declared.{Reading.TheVariants.Done, Refusal.TheVariants.No, Fault.Fault, Ask.Ask, Call.Call}
+use Rattle.call_plan.specs.declared.edit.{Deed.TheVariants.Tell, Deed.TheVariants.Do, Deed.TheVariants.Each}
+use Rattle.call_plan.specs.Edits.{FrameEdit, Plan}
 use Rattle.call_carry.specs.Carry.{carried}
 use Rattle.call_host.specs.Calls.{plan_of, reset_of}
-use Rattle.call_run.specs.declared.Run.{Run}
+use Rattle.call_run.specs.declared.{Run.Run, Ran.Ran}
 
 -- ---- the count of used frames: less one if the frame was used, one more if it is now
-
-unfoldable pub is_used : Frame → ℕ
-is_used f = choose (eqb f.kind NDA) 0 1
 
 -- no count of lent frames comes near 2 ^ 64; one that a caller makes up stays there
 abbrev pub count_most : ℕ
@@ -26,16 +24,17 @@ unfoldable pub counted : ℕ → ℕ → ℕ → ℕ
 counted used was is = min (used - was + is) count_most
 
 unfoldable pub used_after : FrameEdit → List ℕ → ℕ → ℕ
-used_after (FrameEdit.Keep) fs used = used
-used_after (FrameEdit.Set n f) fs used =
+used_after None fs used = used
+used_after (Some (n, f)) fs used =
     given (one_used fs n.0) λ was.
     given (is_used f) λ is.
     counted used was is
 
 unfoldable pub used_by : Plan → List ℕ → ℕ → ℕ
-used_by (Say a) fs used = used
-used_by (Do e) fs used = used_after e.frame fs used
-used_by (Each w) fs used = used
+used_by (Err r) fs used = used
+used_by (Ok (Tell r)) fs used = used
+used_by (Ok (Do e)) fs used = used_after e.frame fs used
+used_by (Ok (Each w)) fs used = used
 
 -- ---- what a run knows: the gauge, the count, whether the tables passed answer 13's check, and whether the gauge's marks did
 
@@ -60,6 +59,10 @@ pub record Next : Type 0 where
 abbrev pub next : Answer → Tables → Run → Next
 next a t r = record { answer = a; tables = t; run = r }
 
+-- an ask of a run refused
+abbrev pub refused : Run → Fault → Ran
+refused r w = record { answer = Err (No w NONE); run = r }
+
 -- "An accepted call stores the new fill", the count being `used` then
 unfoldable pub gauge_with : Gauge → Answer → ℕ → ℕ → Gauge
 gauge_with g a used frames =
@@ -81,20 +84,20 @@ known_reset r a g = given (values_of a) λ v. choose (eqb v.number 0) (knows g 0
 
 unfoldable pub marks_with : Tables → Run → Float → Float → Next
 marks_with t r raise clear =
-    need r.lent (next (No 13 NONE) t r) (
-    need (marks_ok raise clear (length t.frames)) (next (No 1 NONE) t r) (
+    need r.lent (next (Err (No Fault.Range NONE)) t r) (
+    need (marks_ok raise clear (length t.frames)) (next (Err (No Fault.Operand NONE)) t r) (
     given (with_marks raise clear r.used (length t.frames)) λ g.
-    next Done t (knows g r.used)))
+    next (Ok Done) t (knows g r.used)))
 
 -- "Order: 13, ..": the tables, the marks, then the call's own rule
 unfoldable pub host_with : Hpa → Tables → Run → Call → Next
 host_with base t r c =
-    need r.lent (next (No 13 NONE) t r) (
-    need r.marked (next (No 13 NONE) t r)
+    need r.lent (next (Err (No Fault.Range NONE)) t r) (
+    need r.marked (next (Err (No Fault.Range NONE)) t r)
     (rule_with base t r c))
 
 unfoldable pub next_of : Hpa → Tables → Run → Ask → Next
 next_of base t r (Ask.Host c) = host_with base t r c
 next_of base t r (Ask.Marks raise clear) = marks_with t r raise clear
 next_of base t r (Ask.Reset) = given (reset_of base t r.gauge) λ o. next o.answer o.tables (known_reset r o.answer o.gauge)
-next_of base t r (Ask.Unreadable) = next (No 15 NONE) t r
+next_of base t r (Ask.Unreadable) = next (Err (No Fault.Unreadable NONE)) t r

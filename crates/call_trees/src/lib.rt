@@ -2,365 +2,197 @@
 #![tactic(auto)]
 
 ghost use Rattle.std.specs.Prelude.{◌≡◌};
-ghost use Rattle.book_ledger.specs.Tables.{lent};
+ghost use Rattle.book_ledger.specs.Lent.{tables_in};
 ghost use Rattle.call_plan.specs.Changes.{lose};
-ghost use Rattle.call_plan.specs.Edits.{with_frame_epoch, free_entry};
+ghost use Rattle.call_plan.specs.Edits.{free_entry, to_entry};
 ghost use Rattle.call_plan.specs.Entries.{is_tracked};
 ghost use Rattle.call_plan.specs.Lookup.{no_frame, live_for};
 ghost use Rattle.call_trees.specs.Trees.{block_at, block_plan, tracked_for, unblock_at, unblock_plan};
 ghost use Rattle.call_trees.specs.Trees.{pageremove_at, pageremove_plan, septremove_at, septremove_plan, readentry_at, readentry_plan};
 
-use base_calls::Answer;
+use base_calls::{Fault, Reading, Refusal};
 use base_units::address;
 use base_units::address::{Gpa, Hpa, Pfn};
+use base_units::limits::Limits;
 use book_ledger::codes::{
-    BLOCKED, FREE, INITIALIZED, NL_BLOCKED, NL_MAPPED, PENDING, PENDING_BLOCKED, RUNNABLE,
+    BLOCKED, FREE, INITIALIZED, NL_BLOCKED, NL_MAPPED, PENDING, PENDING_BLOCKED,
 };
 use book_ledger::tables;
+use book_ledger::tables::{Lent, Slot};
 use book_ledger::words::{Entry, Frame};
-use book_walk::Walk;
-use call_plan::edit::{DomainEdit, Edit, EntryEdit, FrameEdit, PageEdit, Plan, StockEdit};
-use call_plan::entry::Reach;
-use call_plan::lookup::{NO_FRAME, Parties, Subject};
+use call_plan::edit::{Deed, Edit, KEEPS, Plan, StockEdit};
+use call_plan::lookup::{LIVE, NO_FRAME, Subject};
 use call_plan::{change, entry, lookup};
+
+// The states of an entry that may be blocked, and those of one that is.
+const UNBLOCKED: Limits = Limits {
+    least: NL_MAPPED,
+    most: PENDING,
+};
+
+const ANY_BLOCKED: Limits = Limits {
+    least: NL_BLOCKED,
+    most: PENDING_BLOCKED,
+};
+
+const PAGE_BLOCKED: Limits = Limits {
+    least: BLOCKED,
+    most: PENDING_BLOCKED,
+};
+
+const TABLE_BLOCKED: Limits = Limits {
+    least: NL_BLOCKED,
+    most: NL_BLOCKED,
+};
 
 // Whether a frame is tracked for the domain x. One that is still being built can't be running, and no processor remembers its old entries.
 fn is_tracked(frames: &[u64], n: Pfn, x: Subject) -> bool
     ensures { result ≡ is_tracked frames.now n x }
 {
-    let d = x.dom;
-    if d.op == INITIALIZED {
+    if x.dom.op == INITIALIZED {
         return true;
     }
-    let f = tables::frame_at(frames, n);
-    f.epoch < d.epoch
+    tables::frame_at(frames, n).epoch < x.dom.epoch
 }
 
-fn block_at(
-    frames: &[u64],
-    domains: &[u64],
-    stock: &[u64],
-    entries: &[u32],
-    x: Subject,
-    gpa: Gpa,
-    level: usize,
-) -> Plan
-    ensures { result ≡ block_at (lent frames.now domains.now stock.now entries.now) x gpa level }
+// An entry whose frame is the domain's own becomes blocked, and the frame's epoch the domain's.
+fn block_at(t: &Lent, x: Subject, gpa: Gpa, level: usize) -> Plan
+    ensures { result ≡ block_at (tables_in t.now) x gpa level }
 {
-    match entry::entry_for(
-        frames, domains, stock, entries, x, gpa, level, NL_MAPPED, PENDING,
-    ) {
-        Reach::Not(a) => Plan::Say(a),
-        Reach::At(b, i, e) => {
-            let frame = e.frame;
-            if !book_walk::own_frame(frames, stock, x.tdr, e) {
-                return Plan::Say(Answer::No(14, 0));
-            }
-            let f = tables::frame_at(frames, frame);
-            let d = x.dom;
-            Plan::Do(Edit {
-                frame: FrameEdit::Set(frame, with_epoch(f, d.epoch)),
-                page: PageEdit::Keep,
-                domain: DomainEdit::Keep,
-                stock: StockEdit::Keep,
-                entry: EntryEdit::Set(
-                    b,
-                    i,
-                    Entry {
-                        state: entry::blocked_state(e.state),
-                        frame,
-                    },
-                ),
-            })
-        }
+    let (at, e) = entry::entry_for(t, x, gpa, level, UNBLOCKED)?;
+    if !book_walk::own_frame(t, x.tdr, e) {
+        return Err(Refusal::No(Fault::Link, 0));
     }
+    let f = tables::frame_at(t.frames, e.frame);
+    let since = Frame {
+        epoch: x.dom.epoch,
+        ..f
+    };
+    let state = entry::blocked_state(e.state);
+    Ok(Deed::Do(Edit {
+        frame: Some((e.frame, since)),
+        entry: Some((at, Entry { state, ..e })),
+        ..KEEPS
+    }))
 }
 
-fn with_epoch(f: Frame, epoch: u64) -> Frame
-    ensures { result ≡ with_frame_epoch f epoch }
-{
-    let owner = f.owner;
-    Frame {
-        kind: f.kind,
-        owner,
-        number: f.number,
-        epoch,
-        size: f.size,
-    }
-}
-
-// An entry, its state from `least` to `most`, whose frame is tracked and the domain's own.
+// An entry in one of the states, whose frame is tracked and the domain's own.
 fn tracked_for(
-    frames: &[u64],
-    domains: &[u64],
-    stock: &[u64],
-    entries: &[u32],
+    t: &Lent,
     x: Subject,
     gpa: Gpa,
     level: usize,
-    least: u64,
-    most: u64,
-) -> Reach
-    ensures { result ≡ tracked_for (lent frames.now domains.now stock.now entries.now) x gpa level least most }
+    states: Limits,
+) -> Result<(Slot, Entry), Refusal>
+    ensures { result ≡ tracked_for (tables_in t.now) x gpa level states.least states.most }
 {
-    match entry::entry_for(frames, domains, stock, entries, x, gpa, level, least, most) {
-        Reach::Not(a) => Reach::Not(a),
-        Reach::At(b, i, e) => {
-            if !is_tracked(frames, e.frame, x) {
-                return Reach::Not(Answer::No(8, 0));
-            }
-            if !book_walk::own_frame(frames, stock, x.tdr, e) {
-                return Reach::Not(Answer::No(14, 0));
-            }
-            Reach::At(b, i, e)
-        }
+    let (at, e) = entry::entry_for(t, x, gpa, level, states)?;
+    if !is_tracked(t.frames, e.frame, x) {
+        return Err(Refusal::No(Fault::Untracked, 0));
     }
+    if !book_walk::own_frame(t, x.tdr, e) {
+        return Err(Refusal::No(Fault::Link, 0));
+    }
+    Ok((at, e))
 }
 
-fn unblock_at(
-    frames: &[u64],
-    domains: &[u64],
-    stock: &[u64],
-    entries: &[u32],
-    x: Subject,
-    gpa: Gpa,
-    level: usize,
-) -> Plan
-    ensures { result ≡ unblock_at (lent frames.now domains.now stock.now entries.now) x gpa level }
+fn unblock_at(t: &Lent, x: Subject, gpa: Gpa, level: usize) -> Plan
+    ensures { result ≡ unblock_at (tables_in t.now) x gpa level }
 {
-    match tracked_for(
-        frames,
-        domains,
-        stock,
-        entries,
-        x,
-        gpa,
-        level,
-        NL_BLOCKED,
-        PENDING_BLOCKED,
-    ) {
-        Reach::Not(a) => Plan::Say(a),
-        Reach::At(b, i, e) => {
-            let frame = e.frame;
-            let unblocked = Entry {
-                state: entry::unblocked_state(e.state),
-                frame,
-            };
-            Plan::Do(Edit {
-                frame: FrameEdit::Keep,
-                page: PageEdit::Keep,
-                domain: DomainEdit::Keep,
-                stock: StockEdit::Keep,
-                entry: EntryEdit::Set(b, i, unblocked),
-            })
-        }
-    }
+    let (at, e) = tracked_for(t, x, gpa, level, ANY_BLOCKED)?;
+    let state = entry::unblocked_state(e.state);
+    Ok(Deed::Do(Edit {
+        entry: Some((at, Entry { state, ..e })),
+        ..KEEPS
+    }))
 }
 
 // The frame leaves the domain, and its entry becomes FREE.
-fn frees(x: Subject, frame: Pfn, stock: StockEdit, block: usize, index: usize) -> Plan
-    ensures { result ≡ lose x frame stock (EntryEdit.Set block index free_entry) }
+fn frees(x: Subject, frame: Pfn, stock: StockEdit, at: Slot) -> Plan
+    ensures { result ≡ lose x frame stock (to_entry at.block at.index free_entry) }
 {
     let free = Entry {
         state: FREE,
         frame: Pfn(0),
     };
-    change::loses(x, frame, stock, EntryEdit::Set(block, index, free))
+    change::loses(x, frame, stock, Some((at, free)))
 }
 
-fn pageremove_at(
-    frames: &[u64],
-    domains: &[u64],
-    stock: &[u64],
-    entries: &[u32],
-    x: Subject,
-    gpa: Gpa,
-) -> Plan
-    ensures { result ≡ pageremove_at (lent frames.now domains.now stock.now entries.now) x gpa }
+fn pageremove_at(t: &Lent, x: Subject, gpa: Gpa) -> Plan
+    ensures { result ≡ pageremove_at (tables_in t.now) x gpa }
 {
-    match tracked_for(
-        frames,
-        domains,
-        stock,
-        entries,
-        x,
-        gpa,
-        0,
-        BLOCKED,
-        PENDING_BLOCKED,
-    ) {
-        Reach::Not(a) => Plan::Say(a),
-        Reach::At(b, i, e) => frees(x, e.frame, StockEdit::Keep, b, i),
-    }
+    let (at, e) = tracked_for(t, x, gpa, 0, PAGE_BLOCKED)?;
+    frees(x, e.frame, StockEdit::Keep, at)
 }
 
-fn septremove_at(
-    frames: &[u64],
-    domains: &[u64],
-    stock: &[u64],
-    entries: &[u32],
-    x: Subject,
-    gpa: Gpa,
-    level: usize,
-) -> Plan
-    ensures { result ≡ septremove_at (lent frames.now domains.now stock.now entries.now) x gpa level }
+fn septremove_at(t: &Lent, x: Subject, gpa: Gpa, level: usize) -> Plan
+    ensures { result ≡ septremove_at (tables_in t.now) x gpa level }
 {
-    match tracked_for(
-        frames, domains, stock, entries, x, gpa, level, NL_BLOCKED, NL_BLOCKED,
-    ) {
-        Reach::Not(a) => Plan::Say(a),
-        Reach::At(b, i, e) => {
-            let f = tables::frame_at(frames, e.frame);
-            let table = f.number as usize;
-            if !entry::table_empty(entries, table) {
-                return Plan::Say(Answer::No(9, 0));
-            }
-            frees(x, e.frame, StockEdit::Give(table), b, i)
-        }
+    let (at, e) = tracked_for(t, x, gpa, level, TABLE_BLOCKED)?;
+    let f = tables::frame_at(t.frames, e.frame);
+    let table = f.number as usize;
+    if !entry::table_empty(t.entries, table) {
+        return Err(Refusal::No(Fault::Remains, 0));
     }
+    frees(x, e.frame, StockEdit::Give(table), at)
 }
 
-fn readentry_at(
-    base: Hpa,
-    frames: &[u64],
-    domains: &[u64],
-    stock: &[u64],
-    entries: &[u32],
-    x: Subject,
-    gpa: Gpa,
-    level: usize,
-) -> Plan
-    ensures { result ≡ readentry_at base (lent frames.now domains.now stock.now entries.now) x gpa level }
+fn readentry_at(t: &Lent, x: Subject, gpa: Gpa, level: usize) -> Plan
+    ensures { result ≡ readentry_at t.now.base (tables_in t.now) x gpa level }
 {
-    match entry::walk_of(frames, domains, stock, entries, x, gpa, level) {
-        Walk::Stopped(l, s) => Plan::Say(Answer::Stop(6, l, s)),
-        Walk::Foreign => Plan::Say(Answer::No(14, 0)),
-        Walk::At(b, i) => {
-            let e = tables::entry_at(entries, b, i);
-            if e.state == FREE {
-                return Plan::Say(Answer::Entry(level, e.state, Hpa(0)));
-            }
-            Plan::Say(Answer::Entry(level, e.state, address::hpa_of(base, e.frame)))
-        }
+    let at = entry::walk_of(t, x, gpa, level)?;
+    let e = tables::entry_at(t.entries, at);
+    if e.state == FREE {
+        return Ok(Deed::Tell(Reading::Entry(level, e.state, Hpa(0))));
     }
+    let hpa = address::hpa_of(t.base, e.frame);
+    Ok(Deed::Tell(Reading::Entry(level, e.state, hpa)))
 }
 
 // D live, with a gpa and a level from `lowest` on.
 fn find_live(
-    base: Hpa,
-    frames: &[u64],
-    domains: &[u64],
-    stock: &[u64],
-    entries: &[u32],
+    t: &Lent,
     tdr: Hpa,
     gpa: Gpa,
     level: usize,
     lowest: usize,
-) -> Parties
-    ensures { result
-        ≡ live_for base (lent frames.now domains.now stock.now entries.now) tdr gpa level lowest no_frame }
+) -> Result<(Subject, Pfn), Refusal>
+    ensures { result ≡ live_for t.now.base (tables_in t.now) tdr gpa level lowest no_frame }
 {
-    lookup::find_spot(
-        base,
-        frames,
-        domains,
-        stock,
-        entries,
-        tdr,
-        gpa,
-        level,
-        lowest,
-        NO_FRAME,
-        INITIALIZED,
-        RUNNABLE,
-    )
+    lookup::find_spot(t, tdr, gpa, level, lowest, NO_FRAME, LIVE)
 }
 
-pub fn plan_block(
-    base: Hpa,
-    frames: &[u64],
-    domains: &[u64],
-    stock: &[u64],
-    entries: &[u32],
-    tdr: Hpa,
-    gpa: Gpa,
-    level: usize,
-) -> Plan
-    ensures { result ≡ block_plan base (lent frames.now domains.now stock.now entries.now) tdr gpa level }
+pub fn plan_block(t: &Lent, tdr: Hpa, gpa: Gpa, level: usize) -> Plan
+    ensures { result ≡ block_plan t.now.base (tables_in t.now) tdr gpa level }
 {
-    match find_live(base, frames, domains, stock, entries, tdr, gpa, level, 0) {
-        Parties::Not(a) => Plan::Say(a),
-        Parties::Are(x, _) => block_at(frames, domains, stock, entries, x, gpa, level),
-    }
+    let (x, _) = find_live(t, tdr, gpa, level, 0)?;
+    block_at(t, x, gpa, level)
 }
 
-pub fn plan_unblock(
-    base: Hpa,
-    frames: &[u64],
-    domains: &[u64],
-    stock: &[u64],
-    entries: &[u32],
-    tdr: Hpa,
-    gpa: Gpa,
-    level: usize,
-) -> Plan
-    ensures { result ≡ unblock_plan base (lent frames.now domains.now stock.now entries.now) tdr gpa level }
+pub fn plan_unblock(t: &Lent, tdr: Hpa, gpa: Gpa, level: usize) -> Plan
+    ensures { result ≡ unblock_plan t.now.base (tables_in t.now) tdr gpa level }
 {
-    match find_live(base, frames, domains, stock, entries, tdr, gpa, level, 0) {
-        Parties::Not(a) => Plan::Say(a),
-        Parties::Are(x, _) => unblock_at(frames, domains, stock, entries, x, gpa, level),
-    }
+    let (x, _) = find_live(t, tdr, gpa, level, 0)?;
+    unblock_at(t, x, gpa, level)
 }
 
-pub fn plan_pageremove(
-    base: Hpa,
-    frames: &[u64],
-    domains: &[u64],
-    stock: &[u64],
-    entries: &[u32],
-    tdr: Hpa,
-    gpa: Gpa,
-) -> Plan
-    ensures { result ≡ pageremove_plan base (lent frames.now domains.now stock.now entries.now) tdr gpa }
+pub fn plan_pageremove(t: &Lent, tdr: Hpa, gpa: Gpa) -> Plan
+    ensures { result ≡ pageremove_plan t.now.base (tables_in t.now) tdr gpa }
 {
-    match find_live(base, frames, domains, stock, entries, tdr, gpa, 0, 0) {
-        Parties::Not(a) => Plan::Say(a),
-        Parties::Are(x, _) => pageremove_at(frames, domains, stock, entries, x, gpa),
-    }
+    let (x, _) = find_live(t, tdr, gpa, 0, 0)?;
+    pageremove_at(t, x, gpa)
 }
 
-pub fn plan_septremove(
-    base: Hpa,
-    frames: &[u64],
-    domains: &[u64],
-    stock: &[u64],
-    entries: &[u32],
-    tdr: Hpa,
-    gpa: Gpa,
-    level: usize,
-) -> Plan
-    ensures { result ≡ septremove_plan base (lent frames.now domains.now stock.now entries.now) tdr gpa level }
+pub fn plan_septremove(t: &Lent, tdr: Hpa, gpa: Gpa, level: usize) -> Plan
+    ensures { result ≡ septremove_plan t.now.base (tables_in t.now) tdr gpa level }
 {
-    match find_live(base, frames, domains, stock, entries, tdr, gpa, level, 1) {
-        Parties::Not(a) => Plan::Say(a),
-        Parties::Are(x, _) => septremove_at(frames, domains, stock, entries, x, gpa, level),
-    }
+    let (x, _) = find_live(t, tdr, gpa, level, 1)?;
+    septremove_at(t, x, gpa, level)
 }
 
-pub fn plan_readentry(
-    base: Hpa,
-    frames: &[u64],
-    domains: &[u64],
-    stock: &[u64],
-    entries: &[u32],
-    tdr: Hpa,
-    gpa: Gpa,
-    level: usize,
-) -> Plan
-    ensures { result ≡ readentry_plan base (lent frames.now domains.now stock.now entries.now) tdr gpa level }
+pub fn plan_readentry(t: &Lent, tdr: Hpa, gpa: Gpa, level: usize) -> Plan
+    ensures { result ≡ readentry_plan t.now.base (tables_in t.now) tdr gpa level }
 {
-    match find_live(base, frames, domains, stock, entries, tdr, gpa, level, 0) {
-        Parties::Not(a) => Plan::Say(a),
-        Parties::Are(x, _) => readentry_at(base, frames, domains, stock, entries, x, gpa, level),
-    }
+    let (x, _) = find_live(t, tdr, gpa, level, 0)?;
+    readentry_at(t, x, gpa, level)
 }

@@ -1,9 +1,10 @@
 -- Writing: one text after another, and a turn of the loop over a text's bytes.
-use Rattle.base_rules.specs.Basics.{◌≡◌, List, [], ◌∷◌, ◌++◌, ℕ, ◌+◌, ◌/◌, ◌%◌, ◌<◌, ◌≤◌, min, length, get_or, take, drop, choose}
-use Rattle.base_rules.proofs.Facts.{refl, ◌∙◌, ap, append-nil, append_assoc, arith, lt-ltb, le-ltb, drop_of_length-le, length-append, set-append_seam}
+use mir.Val.{bool_byte}
+use Rattle.base_rules.specs.Basics.{◌≡◌, Bool, true, false, List, [], ◌∷◌, ◌++◌, ℕ, ◌+◌, ◌/◌, ◌%◌, ◌<◌, ◌≤◌, min, length, get_or, take, drop, choose}
+use Rattle.base_rules.proofs.Facts.{refl, ◌∙◌, append-nil, append_assoc, arith, lt-ltb, le-ltb, drop_of_length-le, length-append, set-append_seam}
 use Rattle.base_rules.proofs.Facts.{take-nil, drop-nil}
-use Rattle.door_answers.specs.Answers.{Pen, pen, wrote_byte, wrote, read_out, line_with}
-use Rattle.base_calls.specs.declared.{Answer.Answer, Values.Values}
+use Rattle.door_answers.specs.Answers.{Pen, pen, held, wrote_byte, wrote, lamp_number}
+use Rattle.door_answers.specs.declared.Pen.{Pen as Held}
 use Rattle.base_numbers.specs.Number.{nought, decimal}
 use Rattle.base_numbers.proofs.{Lists.next, Decimals.decimal_one, Decimals.decimal_more}
 
@@ -25,37 +26,32 @@ module _ (p : Pen) {q : Pen} where
   pub wrote_then : {m : Pen} (a b : List ℕ) → m ≡ wrote a p → q ≡ wrote b m → q ≡ wrote (a ++ b) p
   wrote_then a b e f = rw (wrote_append, ← e) f
 
-  pub number_one : (n : ℕ) → n < 10 → q ≡ wrote_byte (nought + n) p → q ≡ wrote (decimal n) p
-  number_one n h f = rw (decimal_one n h) (wrote_byte_fact p _ f)
+  pub number_one : {m : Pen} (n : ℕ) → n < 10 → m ≡ p → q ≡ wrote_byte (nought + n % 10) m → q ≡ wrote (decimal n) p
+  number_one n h e f = let d : n % 10 ≡ n = omega arith in rw (decimal_one n h) (rw (d, e) at (wrote_byte_fact _ _ f))
 
   pub number_more : {m : Pen} (n : ℕ) → 10 ≤ n → m ≡ wrote (decimal (n / 10)) p → q ≡ wrote_byte (nought + n % 10) m → q ≡ wrote (decimal n) p
   number_more {m} n h e f = rw (decimal_more n h) (wrote_then _ _ e (wrote_byte_fact m _ f))
 
-  -- with a number that a callee gave
-  pub line_by : (line : ℕ) (a : Answer) {v w : Values} → v ≡ w → q ≡ wrote (line_with line v.number a) p → q ≡ wrote (line_with line w.number a) p
-  line_by line a e f = f ∙ ap (λ x. wrote (line_with line x.number a) p) e
-
-  -- by the case of an answer
-  pub read_is : {a b : Answer} → a ≡ b → q ≡ wrote (read_out b) p → q ≡ wrote (read_out a) p
-  read_is e f = rw e f
+-- the library's number of a lamp
+pub lit : (lamp : Bool) → bool_byte lamp ≡ lamp_number lamp
+unfolding choose
+lit true = refl
+lit false = refl
 
 pub ruleset writes = (wrote_then, wrote_none, wrote_byte_fact)
 
 -- what the loop keeps at i: the bytes still to write, from the pen as it is now
-pub record Writing (old : List ℕ) (from : ℕ) (text out : List ℕ) (at i : ℕ) : Type 0 where
-  pub size : length out ≡ length old
-  pub left : wrote text (pen old from) ≡ wrote (drop i text) (pen out at)
+pub record Writing (text : List ℕ) (old now : Held) (i : ℕ) : Type 0 where
+  pub place : now.out.ghost_name ≡ old.out.ghost_name
+  pub left : wrote text (held old) ≡ wrote (drop i text) (held now)
 
-pub writing_none : (old : List ℕ) (from : ℕ) (text : List ℕ) → Writing old from text old from 0
-writing_none old from text = record { size = refl; left = refl }
-
-module _ {old text out : List ℕ} {from at i : ℕ} (w : Writing old from text out at i) where
-  pub writing_more : {now : List ℕ} {to : ℕ} → i < length text → length now ≡ length out → pen now to ≡ wrote_byte (get_or text i 0) (pen out at)
-      → Writing old from text now to (i + 1)
+module _ {text : List ℕ} {old now : Held} {i : ℕ} (w : Writing text old now i) where
+  pub writing_more : {done : Held} → i < length text → done.out.ghost_name ≡ now.out.ghost_name → held done ≡ wrote_byte (get_or text i 0) (held now)
+      → Writing text old done (i + 1)
   unfolding wrote
-  writing_more h l e = record { size = l ∙ w.size; left = rw (w.left, next text i h, e) }
+  writing_more h l e = record { place = l ∙ w.place; left = rw (w.left, next text i h, e) }
 
-  pub writing_end : length text ≤ i → pen out at ≡ wrote text (pen old from)
+  pub writing_end : length text ≤ i → held now ≡ wrote text (held old)
   unfolding wrote
   writing_end h = rw (w.left, drop_of_length-le text h)
 

@@ -1,9 +1,11 @@
 -- Document 01, "The script": a line of the output is a row of words and numbers, parted by tabs.
-use Rattle.std.specs.Prelude.{ℕ, ◌+◌, Bool, List, [], ◌∷◌, ◌++◌, ltb, length, set}
+use Rattle.std.specs.Prelude.{ℕ, ◌+◌, Bool, List, [], ◌∷◌, ◌++◌, Ok, Err, ltb, length, set}
 use Rattle.base_rules.specs.Basics.{choose}
 use Rattle.base_units.specs.{Limits.frame_bytes, declared.address.Hpa.Hpa}
-use Rattle.base_calls.specs.Answers.{number_of}
-use Rattle.base_calls.specs.declared.Answer.{Answer, TheVariants.Done, TheVariants.Page, TheVariants.Entry, TheVariants.No, TheVariants.Stop}
+use Rattle.base_calls.specs.Answers.{Answer, number_of}
+use Rattle.base_calls.specs.declared.Reading.{TheVariants.Done, TheVariants.Page, TheVariants.Entry}
+use Rattle.base_calls.specs.declared.Refusal.{TheVariants.No, TheVariants.Stop}
+use Rattle.door_answers.specs.declared.Pen.{Pen as Held}
 use Rattle.door_script.specs.Text.{bytes, lf}
 use Rattle.base_numbers.specs.Number.{decimal}
 
@@ -14,6 +16,10 @@ pub record Pen : Type 0 where
 
 abbrev pub pen : List ℕ → ℕ → Pen
 pen b n = record { buffer = b; at = n }
+
+-- the same, as the code holds it
+abbrev pub held : Held → Pen
+held p = pen p.out.now p.at
 
 -- a byte is written where there is room for it
 unfoldable pub wrote_byte : ℕ → Pen → Pen
@@ -41,11 +47,11 @@ level_state_hpa level state hpa = level_state level state ++ pair (bytes "\thpa\
 
 -- "Answers 6 and 7 add level and state; an accepted readentry adds level, state, hpa"; "line 8 answer 0 type 2 owner 1073741824"
 unfoldable pub read_out : Answer → List ℕ
-read_out Done = []
-read_out (No number operand) = []
-read_out (Stop number level state) = level_state level state
-read_out (Page type owner) = type_owner type owner
-read_out (Entry level state hpa) = level_state_hpa level state hpa
+read_out (Ok Done) = []
+read_out (Ok (Page type owner)) = type_owner type owner
+read_out (Ok (Entry level state hpa)) = level_state_hpa level state hpa
+read_out (Err (No fault operand)) = []
+read_out (Err (Stop fault level state)) = level_state level state
 
 -- "line N answer A", and what the answer reads out
 unfoldable pub line_with : ℕ → ℕ → Answer → List ℕ
@@ -56,7 +62,7 @@ answer_line line a = line_with line (number_of a) a
 
 -- "15: script line unreadable"
 abbrev pub unreadable_line : ℕ → List ℕ
-unreadable_line line = line_with line 15 Done
+unreadable_line line = line_with line 15 (Ok Done)
 
 unfoldable pub pairs_line : List ℕ → ℕ → List ℕ → ℕ → List ℕ
 pairs_line v m w n = pairs v m w n ++ (lf ∷ [])

@@ -1,147 +1,144 @@
-// Answers, written as lines into a lent buffer, as much as it has room for. Each function gives the place behind what it wrote.
+// Answers, written as lines into a lent buffer, as much as it has room for. Each public function gives the place behind what it wrote.
 #![tactic(auto)]
 
-ghost use Rattle.std.specs.Prelude.{◌≡◌, ◌++◌};
+ghost use Rattle.std.specs.Prelude.{◌≡◌};
 ghost use Rattle.base_numbers.specs.Number.{decimal};
-ghost use Rattle.door_answers.specs.Answers.{pen, wrote_byte, wrote, pairs, level_state, type_owner, level_state_hpa};
-ghost use Rattle.door_answers.specs.Answers.{read_out, line_with, answer_line, unreadable_line, pairs_line, first_line, lamp_number, last_line};
+ghost use Rattle.door_answers.specs.Answers.{pen, held, wrote_byte, wrote, pair, pairs, level_state};
+ghost use Rattle.door_answers.specs.Answers.{read_out, answer_line, unreadable_line, pairs_line, first_line, last_line};
 
-use base_calls;
-use base_calls::Answer;
+use base_calls::{Answer, Fault, Reading, Refusal, Values};
 use base_numbers::ZERO;
-use base_units::address::Hpa;
 use base_units::limits::FRAME_BYTES;
 use door_script::line::LF;
 
 // The answer to a line that can't be read.
-const UNREADABLE: u64 = 15;
+const UNREADABLE: Answer = Err(Refusal::No(Fault::Unreadable, 0));
 
-fn put(out: &mut [u8], at: usize, byte: u8) -> usize
-    ensures { pen out.new result ≡ wrote_byte byte (pen out.old at) }
-{
-    if at < out.len() {
-        out[at] = byte;
-        return at + 1;
+// A lent buffer, and the place behind what is written there.
+#[derive(Drop)]
+struct Pen<'a> {
+    out: &'a mut [u8],
+    at: usize,
+}
+
+impl Pen<'_> {
+    fn put(&mut self, byte: u8)
+        ensures same { self.new.out.ghost_name ≡ self.old.out.ghost_name }
+        ensures wrote { held self.new ≡ wrote_byte byte (held self.old) }
+    {
+        if self.at < self.out.len() {
+            self.out[self.at] = byte;
+            self.at += 1;
+        }
     }
-    at
-}
 
-fn put_text(out: &mut [u8], from: usize, text: &[u8]) -> usize
-    ensures { pen out.new result ≡ wrote text.now (pen out.old from) }
-{
-    let mut at = from;
-    let mut i = 0;
-    while i < text.len() {
-        at = put(out, at, text[i]);
-        i += 1;
+    fn text(&mut self, text: &[u8])
+        ensures same { self.new.out.ghost_name ≡ self.old.out.ghost_name }
+        ensures wrote { held self.new ≡ wrote text.now (held self.old) }
+    {
+        for &byte in text {
+            self.put(byte);
+        }
     }
-    at
-}
 
-fn put_number(out: &mut [u8], at: usize, n: u64) -> usize
-    ensures { pen out.new result ≡ wrote (decimal n) (pen out.old at) }
-{
-    if n < 10 {
-        return put(out, at, ZERO + n as u8);
+    fn number(&mut self, n: u64)
+        ensures same { self.new.out.ghost_name ≡ self.old.out.ghost_name }
+        ensures wrote { held self.new ≡ wrote (decimal n) (held self.old) }
+    {
+        if n >= 10 {
+            self.number(n / 10);
+        }
+        self.put(ZERO + (n % 10) as u8);
     }
-    let next = put_number(out, at, n / 10);
-    put(out, next, ZERO + (n % 10) as u8)
-}
 
-fn put_pair(out: &mut [u8], at: usize, word: &[u8], n: u64) -> usize
-    ensures { pen out.new result ≡ wrote (word.now ++ decimal n) (pen out.old at) }
-{
-    let next = put_text(out, at, word);
-    put_number(out, next, n)
-}
-
-fn put_pairs(out: &mut [u8], at: usize, v: &[u8], m: u64, w: &[u8], n: u64) -> usize
-    ensures { pen out.new result ≡ wrote (pairs v.now m w.now n) (pen out.old at) }
-{
-    let next = put_pair(out, at, v, m);
-    put_pair(out, next, w, n)
-}
-
-fn put_level(out: &mut [u8], at: usize, level: usize, state: u64) -> usize
-    ensures { pen out.new result ≡ wrote (level_state level state) (pen out.old at) }
-{
-    put_pairs(out, at, b"\tlevel\t", level as u64, b"\tstate\t", state)
-}
-
-fn put_page(out: &mut [u8], at: usize, kind: u64, owner: Hpa) -> usize
-    ensures { pen out.new result ≡ wrote (type_owner kind owner) (pen out.old at) }
-{
-    put_pairs(out, at, b"\ttype\t", kind, b"\towner\t", owner.0)
-}
-
-fn put_entry(out: &mut [u8], at: usize, level: usize, state: u64, hpa: Hpa) -> usize
-    ensures { pen out.new result ≡ wrote (level_state_hpa level state hpa) (pen out.old at) }
-{
-    let next = put_level(out, at, level, state);
-    put_pair(out, next, b"\thpa\t", hpa.0)
-}
-
-// What an answer reads out.
-fn put_read(out: &mut [u8], at: usize, answer: Answer) -> usize
-    ensures { pen out.new result ≡ wrote (read_out answer) (pen out.old at) }
-{
-    match answer {
-        Answer::Done => at,
-        Answer::No(_, _) => at,
-        Answer::Stop(_, level, state) => put_level(out, at, level, state),
-        Answer::Page(kind, owner) => put_page(out, at, kind, owner),
-        Answer::Entry(level, state, hpa) => put_entry(out, at, level, state, hpa),
+    fn pair(&mut self, word: &[u8], n: u64)
+        ensures same { self.new.out.ghost_name ≡ self.old.out.ghost_name }
+        ensures wrote { held self.new ≡ wrote (pair word.now n) (held self.old) }
+    {
+        self.text(word);
+        self.number(n);
     }
-}
 
-fn write_line(out: &mut [u8], line: u64, number: u64, answer: Answer) -> usize
-    ensures { pen out.new result ≡ wrote (line_with line number answer) (pen out.old 0) }
-{
-    let at = put_pairs(out, 0, b"line\t", line, b"\tanswer\t", number);
-    let next = put_read(out, at, answer);
-    put(out, next, LF)
+    fn pairs(&mut self, v: &[u8], m: u64, w: &[u8], n: u64)
+        ensures same { self.new.out.ghost_name ≡ self.old.out.ghost_name }
+        ensures wrote { held self.new ≡ wrote (pairs v.now m w.now n) (held self.old) }
+    {
+        self.pair(v, m);
+        self.pair(w, n);
+    }
+
+    fn level_state(&mut self, level: usize, state: u64)
+        ensures same { self.new.out.ghost_name ≡ self.old.out.ghost_name }
+        ensures wrote { held self.new ≡ wrote (level_state level state) (held self.old) }
+    {
+        self.pairs(b"\tlevel\t", level as u64, b"\tstate\t", state);
+    }
+
+    // What an answer reads out.
+    fn read_out(&mut self, answer: Answer)
+        ensures same { self.new.out.ghost_name ≡ self.old.out.ghost_name }
+        ensures wrote { held self.new ≡ wrote (read_out answer) (held self.old) }
+    {
+        match answer {
+            Ok(Reading::Done) => {}
+            Ok(Reading::Page(kind, owner)) => self.pairs(b"\ttype\t", kind, b"\towner\t", owner.0),
+            Ok(Reading::Entry(level, state, hpa)) => {
+                self.level_state(level, state);
+                self.pair(b"\thpa\t", hpa.0);
+            }
+            Err(Refusal::No(_, _)) => {}
+            Err(Refusal::Stop(_, level, state)) => self.level_state(level, state),
+        }
+    }
+
+    fn line(&mut self, line: u64, answer: Answer)
+        ensures same { self.new.out.ghost_name ≡ self.old.out.ghost_name }
+        ensures wrote { held self.new ≡ wrote (answer_line line answer) (held self.old) }
+    {
+        self.pairs(b"line\t", line, b"\tanswer\t", Values::from(answer).number);
+        self.read_out(answer);
+        self.put(LF);
+    }
+
+    fn pairs_line(&mut self, v: &[u8], m: u64, w: &[u8], n: u64)
+        ensures same { self.new.out.ghost_name ≡ self.old.out.ghost_name }
+        ensures wrote { held self.new ≡ wrote (pairs_line v.now m w.now n) (held self.old) }
+    {
+        self.pairs(v, m, w, n);
+        self.put(LF);
+    }
 }
 
 // The answer to a line, by the line's number from 1.
 pub fn write_answer(out: &mut [u8], line: u64, answer: Answer) -> usize
     ensures { pen out.new result ≡ wrote (answer_line line answer) (pen out.old 0) }
 {
-    let v = base_calls::values_of(answer);
-    write_line(out, line, v.number, answer)
+    let mut pen = Pen { out, at: 0 };
+    pen.line(line, answer);
+    pen.at
 }
 
 pub fn write_unreadable(out: &mut [u8], line: u64) -> usize
     ensures { pen out.new result ≡ wrote (unreadable_line line) (pen out.old 0) }
 {
-    write_line(out, line, UNREADABLE, Answer::Done)
-}
-
-fn write_pairs(out: &mut [u8], v: &[u8], m: u64, w: &[u8], n: u64) -> usize
-    ensures { pen out.new result ≡ wrote (pairs_line v.now m w.now n) (pen out.old 0) }
-{
-    let at = put_pairs(out, 0, v, m, w, n);
-    put(out, at, LF)
+    write_answer(out, line, UNREADABLE)
 }
 
 // The output's first line: the sizes.
 pub fn write_first(out: &mut [u8], frames: u64) -> usize
     ensures { pen out.new result ≡ wrote (first_line frames) (pen out.old 0) }
 {
-    write_pairs(out, b"bytes\t", FRAME_BYTES, b"\tframes\t", frames)
-}
-
-fn lit(lamp: bool) -> u64
-    ensures { result ≡ lamp_number lamp }
-{
-    if lamp {
-        return 1;
-    }
-    0
+    let mut pen = Pen { out, at: 0 };
+    pen.pairs_line(b"bytes\t", FRAME_BYTES, b"\tframes\t", frames);
+    pen.at
 }
 
 // The output's last line: the frames that aren't NDA, and the lamp.
+#[tactic(auto, using(crate::proofs::Writes::lit))]
 pub fn write_last(out: &mut [u8], used: u64, lamp: bool) -> usize
     ensures { pen out.new result ≡ wrote (last_line used lamp) (pen out.old 0) }
 {
-    write_pairs(out, b"used\t", used, b"\tlamp\t", lit(lamp))
+    let mut pen = Pen { out, at: 0 };
+    pen.pairs_line(b"used\t", used, b"\tlamp\t", u64::from(lamp));
+    pen.at
 }

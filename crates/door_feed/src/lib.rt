@@ -10,7 +10,7 @@ pub const LINES_MOST: u64 = 10000;
 // One byte more than a readable line has: a line that reaches it is unreadable, however it goes on.
 pub const HELD_MOST: usize = 121;
 
-const LF: u8 = 10;
+const LF: u8 = b'\n';
 
 // How many lines have ended, and how many bytes are held of the line that has begun.
 #[derive(Clone, Copy)]
@@ -27,25 +27,27 @@ pub enum Turn {
     Stop,
 }
 
-pub fn turn_of(f: Feed, byte: u8) -> Turn
-    ensures { result ≡ turn_of f byte }
-{
-    if f.lines >= LINES_MOST {
-        return Turn::Stop;
+impl Feed {
+    pub fn turn_of(self, byte: u8) -> Turn
+        ensures { result ≡ turn_of self byte }
+    {
+        if self.lines >= LINES_MOST {
+            return Turn::Stop;
+        }
+        if byte == LF {
+            return Turn::Ends(Feed {
+                lines: self.lines + 1,
+                held: 0,
+            });
+        }
+        if self.held >= HELD_MOST {
+            return Turn::Hold(self);
+        }
+        Turn::Hold(Feed {
+            held: self.held + 1,
+            ..self
+        })
     }
-    if byte == LF {
-        return Turn::Ends(Feed {
-            lines: f.lines + 1,
-            held: 0,
-        });
-    }
-    if f.held >= HELD_MOST {
-        return Turn::Hold(f);
-    }
-    Turn::Hold(Feed {
-        lines: f.lines,
-        held: f.held + 1,
-    })
 }
 
 // A byte of a line, held in its place. Bytes beyond the buffer are dropped.
@@ -63,21 +65,12 @@ pub fn within(n: usize, text: &[u8]) -> usize
     ensures small { result ≤ length text.now }
     ensures taken { result ≡ length (take result text.now) }
 {
-    if n <= text.len() {
-        return n;
-    }
-    text.len()
+    n.min(text.len())
 }
 
 // The place `by` bytes on, and no further than `most`.
 pub fn advanced(at: usize, by: usize, most: usize) -> usize
     ensures { result ≡ least (at + by) most }
 {
-    if at > most {
-        return most;
-    }
-    if by > most - at {
-        return most;
-    }
-    at + by
+    at.saturating_add(by).min(most)
 }

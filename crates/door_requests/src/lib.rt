@@ -21,7 +21,7 @@ pub struct Request {
     pub clear: f64,
 }
 
-// The numbers are settled: a new call takes the next one.
+// C names a call by its number. The numbers are settled: a new call takes the next one.
 pub fn ask_of(r: Request) -> Ask
     ensures { result ≡ ask_for r }
 {

@@ -1,27 +1,13 @@
--- Looking for a mark: a turn of the loop, its end, and the part in front of the mark.
-use Rattle.base_rules.specs.Basics.{◌≡◌, List, [], ◌∷◌, ℕ, ◌+◌, ◌-◌, ◌<◌, ◌≤◌, eqb, length, get_or, take, drop, choose}
-use Rattle.base_rules.proofs.Facts.{refl, ap, arith, add-zero, eq-eqb, ne_eqb, drop_of_length-le, length-take, length-drop, choose_both}
-use Rattle.door_script.specs.Text.{upto}
-use Rattle.base_numbers.proofs.Lists.{next}
-
--- what the loop keeps at `at`: the mark is as far from there as from where it began
-pub record Ending (xs : List ℕ) (mark from at : ℕ) : Type 0 where
-  pub left : from + length (upto mark (drop from xs)) ≡ at + length (upto mark (drop at xs))
-
-module _ {xs : List ℕ} {mark from at : ℕ} (e : Ending xs mark from at) where
-  pub ending_stop : at < length xs → get_or xs at 0 ≡ mark → at ≡ from + length (upto mark (drop from xs))
-  unfolding upto choose
-  ending_stop h q = rw (e.left, next xs at h, eq-eqb _ _ q, add-zero)
-
-  pub ending_more : at < length xs → (get_or xs at 0 ≡ mark → ⊥) → Ending xs mark from (at + 1)
-  unfolding upto choose
-  ending_more h q = record { left = rw (e.left, next xs at h, ne_eqb _ _ q) (omega arith) }
-
-  pub ending_end : length xs ≤ at → at ≡ from + length (upto mark (drop from xs))
-  unfolding upto
-  ending_end h = rw (e.left, drop_of_length-le xs h, add-zero)
-
-pub ruleset endings = (ending_stop, ending_more, ending_end)
+-- The part of a text in front of a mark, and the fields of a line as the library cuts it at its tabs.
+use Rattle.std.proofs.Common.{Option, Some, None, MatchOption, cond, Bor, slice_get}
+use Rattle.std.specs.Option.{unwrap_or, option_map}
+use Rattle.std.specs.List.{AllWithin, HoldsAt, slice_split, onto_first}
+use Rattle.std.proofs.lemmas.Option.{unwrap_or-slice_get}
+use Rattle.std.proofs.lemmas.Iterator.{index_from_first}
+use Rattle.base_rules.specs.Basics.{◌≡◌, Bool, true, false, List, [], ◌∷◌, ℕ, zero, suc, ◌+◌, ◌<◌, ◌≤◌, eqb, length, get_or, take, drop, choose, on_option}
+use Rattle.base_rules.proofs.Facts.{refl, ◌∙◌, ap, arith, eq-eqb, ne_eqb, length-take, choose_both}
+use Rattle.base_numbers.specs.Number.{number_read}
+use Rattle.door_script.specs.{Text.tab, Text.upto, Lines.field_at, Lines.number_in}
 
 upto_take : (mark : ℕ) (l : List ℕ) → take (length (upto mark l)) l ≡ upto mark l
 unfolding upto
@@ -32,13 +18,77 @@ upto_take mark (b ∷ l) =
 pub upto_within : (mark : ℕ) (l : List ℕ) → length (upto mark l) ≤ length l
 upto_within mark l = rw (← upto_take mark l, length-take) (omega arith)
 
--- where the loop ended, from `from` on
-module _ (mark : ℕ) (xs : List ℕ) (from : ℕ) {to : ℕ} (e : to ≡ from + length (upto mark (drop from xs))) where
-  pub mark_within : from ≤ length xs → to ≤ length xs
-  mark_within h = omega (arith, upto_within mark (drop from xs), length-drop from xs)
+upto_hit : (mark b : ℕ) (l : List ℕ) → b ≡ mark → length (upto mark (b ∷ l)) ≡ 0
+unfolding upto choose
+upto_hit mark b l e = rw (eq-eqb b mark e)
 
-  pub mark_size : to - from ≡ length (upto mark (drop from xs))
-  mark_size = omega arith
+upto_miss : (mark b : ℕ) (l : List ℕ) → (b ≡ mark → ⊥) → length (upto mark (b ∷ l)) ≡ length (upto mark l) + 1
+unfolding upto choose
+upto_miss mark b l n = rw (ne_eqb b mark n) (omega arith)
 
-  pub mark_part : take (to - from) (drop from xs) ≡ upto mark (drop from xs)
-  mark_part = rw mark_size (upto_take mark (drop from xs))
+no_upto : (mark : ℕ) → length (upto mark []) ≡ 0
+unfolding upto
+no_upto mark = refl
+
+-- by where the library finds the mark
+pub upto_found : (mark : ℕ) (l : List ℕ) (r : Option ℕ)
+    → MatchOption r (AllWithin (λ b. b ≡ mark → ⊥) l 0 (length l)) (λ i. (i < length l) × HoldsAt (λ b. b ≡ mark) l i × AllWithin (λ b. b ≡ mark → ⊥) l 0 i)
+    → take (unwrap_or r (length l)) l ≡ upto mark l
+upto_found mark l r f =
+    let e = index_from_first (λ l. length (upto mark l)) (λ b. b ≡ mark) (λ b. b ≡ mark → ⊥) (no_upto mark) (upto_hit mark) (upto_miss mark) l r f in
+    rw (← e) (upto_take mark l)
+
+abbrev parts : List ℕ → List (List ℕ)
+parts l = slice_split (λ b. eqb b tab) l
+
+onto_head : (b : ℕ) (u : List ℕ) (ps : List (List ℕ)) → ps ≡ u ∷ drop 1 ps → onto_first b ps ≡ (b ∷ u) ∷ drop 1 ps
+onto_head b u [] e = cc
+onto_head b u (p ∷ ps) e = cc
+
+-- a line's parts behind a byte, by whether that is a tab
+behind : Bool → ℕ → List ℕ → List (List ℕ)
+behind t b l = cond t ([] ∷ parts l) (onto_first b (parts l))
+
+first_by : (t : Bool) (b : ℕ) (l : List ℕ) → parts l ≡ upto tab l ∷ drop 1 (parts l)
+    → behind t b l ≡ choose t [] (b ∷ upto tab l) ∷ drop 1 (behind t b l)
+unfolding behind choose
+first_by true b l e = refl
+first_by false b l e = let h = onto_head b (upto tab l) (parts l) e in rw h refl
+
+first_part : (l : List ℕ) → parts l ≡ upto tab l ∷ drop 1 (parts l)
+unfolding upto behind
+first_part [] = refl
+first_part (b ∷ l) = first_by (eqb b tab) b l (first_part l)
+
+other_by : (t : Bool) (k b : ℕ) (l : List ℕ) → get_or (drop 1 (parts l)) k [] ≡ get_or (parts (drop (length (upto tab l) + 1) l)) k []
+    → get_or (drop 1 (behind t b l)) k [] ≡ get_or (parts (drop (length (choose t [] (b ∷ upto tab l)) + 1) (b ∷ l))) k []
+unfolding behind choose
+other_by true k b l e = refl
+other_by false k b l e =
+    let h = onto_head b (upto tab l) (parts l) (first_part l) in let n : suc (length (upto tab l)) + 1 ≡ suc (length (upto tab l) + 1) = omega arith in rw (h, n) e
+
+other_part : (k : ℕ) (l : List ℕ) → get_or (drop 1 (parts l)) k [] ≡ get_or (parts (drop (length (upto tab l) + 1) l)) k []
+unfolding upto behind
+other_part zero [] = refl
+other_part (suc k) [] = refl
+other_part k (b ∷ l) = other_by (eqb b tab) k b l (other_part k l)
+
+part_field : (k : ℕ) (l : List ℕ) → get_or (parts l) k [] ≡ field_at k l
+unfolding field_at
+part_field zero l = ap (λ ps. get_or ps 0 []) (first_part l)
+part_field (suc k) l =
+    ap (λ ps. get_or ps (suc k) []) (first_part l) ∙ other_part k l ∙ part_field k (drop (length (upto tab l) + 1) l)
+
+unwrapped : (n : Option ℕ) → unwrap_or n 0 ≡ on_option n 0 (λ m. m)
+unfolding on_option
+unwrapped None = refl
+unwrapped (Some m) = refl
+
+-- by what the library reads of the part that it finds
+pub number_found : (l : List ℕ) (k : ℕ) (r : Option (Bor (List ℕ))) (n : Option ℕ) → option_map (λ p. p.now) r ≡ slice_get (parts l) k
+    → MatchOption r (n ≡ None) (λ p. n ≡ number_read p.now) → unwrap_or n 0 ≡ number_in l k
+unfolding number_in number_read choose on_option
+number_found l k None n e f =
+    let g : get_or (parts l) k [] ≡ [] = rw (← unwrap_or-slice_get, ← e) in rw (← part_field k l, g, f)
+number_found l k (Some p) n e f =
+    let g : get_or (parts l) k [] ≡ p.now = rw (← unwrap_or-slice_get, ← e) in rw (← part_field k l, g, ← f) (unwrapped n)

@@ -1,11 +1,8 @@
 // A script's line, read as a call.
-ghost use Rattle.std.specs.Prelude.{◌≡◌, ◌+◌, [], ◌∷◌, length, drop};
-ghost use Rattle.door_script.specs.Text.{upto};
-ghost use Rattle.base_numbers.specs.Number.{number_read};
-ghost use Rattle.door_script.specs.Lines.{field, starts, taken_by, fits, number_in, numbers_of, call_at, line_of};
+ghost use Rattle.std.specs.Prelude.{◌≡◌};
+ghost use Rattle.door_script.specs.Lines.{field, taken_by, fits, number_in, numbers_of, place, call_at, line_of};
 
 use base_calls::Call;
-use base_numbers::Number;
 use base_units::address::{Gpa, Hpa};
 
 pub const LINE_MOST_BYTES: usize = 120;
@@ -16,222 +13,229 @@ pub const LF: u8 = b'\n';
 
 const PLACE: u8 = b'#';
 
-const ROWS: usize = 19;
-
-// A row for each call, in the order of `built`: its line, with `#` in each number's place.
-const TABLE: [u8; 382] = *b"create\thpa\t#\tkey\t#\n\
-    keyconfig\thpa\t#\n\
-    addcx\thpa\t#\thpa\t#\n\
-    init\thpa\t#\n\
-    septadd\thpa\t#\tgpa\t#\tlevel\t#\thpa\t#\n\
-    pageadd\thpa\t#\tgpa\t#\thpa\t#\n\
-    finalize\thpa\t#\n\
-    pageaug\thpa\t#\tgpa\t#\thpa\t#\n\
-    block\thpa\t#\tgpa\t#\tlevel\t#\n\
-    track\thpa\t#\n\
-    unblock\thpa\t#\tgpa\t#\tlevel\t#\n\
-    pageremove\thpa\t#\tgpa\t#\n\
-    septremove\thpa\t#\tgpa\t#\tlevel\t#\n\
-    flushdone\thpa\t#\n\
-    keyfree\thpa\t#\n\
-    reclaim\thpa\t#\n\
-    readpage\thpa\t#\n\
-    readentry\thpa\t#\tgpa\t#\tlevel\t#\n\
-    cachewb\n";
-
+// Which call a line makes.
 #[derive(Clone, Copy)]
-pub enum Line {
-    Call(Call),
-    Unreadable,
+enum Name {
+    Create,
+    KeyConfig,
+    AddCx,
+    Init,
+    SeptAdd,
+    PageAdd,
+    Finalize,
+    PageAug,
+    Block,
+    Track,
+    Unblock,
+    PageRemove,
+    SeptRemove,
+    FlushDone,
+    KeyFree,
+    Reclaim,
+    ReadPage,
+    ReadEntry,
+    CacheWb,
 }
 
-// How many bytes of a line a byte of a row stands for.
+// A call's form as a line, with `#` in each number's place.
 #[derive(Clone, Copy)]
-pub enum Taken {
-    Bytes(usize),
-    Nothing,
+struct Row {
+    form: &'static [u8],
+    name: Name,
 }
 
-// Where the first `mark` stands, from `from` on, or the end.
-pub fn end_of(text: &[u8], from: usize, mark: u8) -> usize
-    ensures { result ≡ from + length (upto mark (drop from text.now)) }
+const ROWS: [Row; 19] = [
+    Row {
+        form: b"create\thpa\t#\tkey\t#",
+        name: Name::Create,
+    },
+    Row {
+        form: b"keyconfig\thpa\t#",
+        name: Name::KeyConfig,
+    },
+    Row {
+        form: b"addcx\thpa\t#\thpa\t#",
+        name: Name::AddCx,
+    },
+    Row {
+        form: b"init\thpa\t#",
+        name: Name::Init,
+    },
+    Row {
+        form: b"septadd\thpa\t#\tgpa\t#\tlevel\t#\thpa\t#",
+        name: Name::SeptAdd,
+    },
+    Row {
+        form: b"pageadd\thpa\t#\tgpa\t#\thpa\t#",
+        name: Name::PageAdd,
+    },
+    Row {
+        form: b"finalize\thpa\t#",
+        name: Name::Finalize,
+    },
+    Row {
+        form: b"pageaug\thpa\t#\tgpa\t#\thpa\t#",
+        name: Name::PageAug,
+    },
+    Row {
+        form: b"block\thpa\t#\tgpa\t#\tlevel\t#",
+        name: Name::Block,
+    },
+    Row {
+        form: b"track\thpa\t#",
+        name: Name::Track,
+    },
+    Row {
+        form: b"unblock\thpa\t#\tgpa\t#\tlevel\t#",
+        name: Name::Unblock,
+    },
+    Row {
+        form: b"pageremove\thpa\t#\tgpa\t#",
+        name: Name::PageRemove,
+    },
+    Row {
+        form: b"septremove\thpa\t#\tgpa\t#\tlevel\t#",
+        name: Name::SeptRemove,
+    },
+    Row {
+        form: b"flushdone\thpa\t#",
+        name: Name::FlushDone,
+    },
+    Row {
+        form: b"keyfree\thpa\t#",
+        name: Name::KeyFree,
+    },
+    Row {
+        form: b"reclaim\thpa\t#",
+        name: Name::Reclaim,
+    },
+    Row {
+        form: b"readpage\thpa\t#",
+        name: Name::ReadPage,
+    },
+    Row {
+        form: b"readentry\thpa\t#\tgpa\t#\tlevel\t#",
+        name: Name::ReadEntry,
+    },
+    Row {
+        form: b"cachewb",
+        name: Name::CacheWb,
+    },
+];
+
+// The field that a line begins with.
+fn field(line: &[u8]) -> &[u8]
+    ensures { result.now ≡ field line.now }
 {
-    let mut at = from;
-    while at < text.len() {
-        if text[at] == mark {
-            return at;
-        }
-        at += 1;
-    }
-    at
+    let end = line.iter().position(|&byte| byte == TAB);
+    &line[..end.unwrap_or(line.len())]
 }
 
-// The number in the field that begins at `from`.
-fn number_at(line: &[u8], from: usize) -> Number
-    ensures { result ≡ number_read (field (drop from line.now)) }
-{
-    if from >= line.len() {
-        return Number::No;
-    }
-    let to = end_of(line, from, TAB);
-    base_numbers::number_of(&line[from..to])
-}
-
-fn starts_with(line: &[u8], at: usize, byte: u8) -> bool
-    ensures { result ≡ starts byte (drop at line.now) }
-{
-    if at < line.len() {
-        return line[at] == byte;
-    }
-    false
-}
-
-fn taken_by(line: &[u8], at: usize, byte: u8) -> Taken
-    ensures { result ≡ taken_by byte (drop at line.now) }
+// How many bytes of a line a byte of a row stands for, if the line goes on so.
+fn taken_by(line: &[u8], byte: u8) -> Option<usize>
+    ensures { result ≡ taken_by byte line.now }
 {
     if byte == PLACE {
-        let Number::Is(_) = number_at(line, at) else {
-            return Taken::Nothing;
-        };
-        return Taken::Bytes(end_of(line, at, TAB) - at);
+        let number = field(line);
+        base_numbers::number_of(number)?;
+        return Some(number.len());
     }
-    if starts_with(line, at, byte) {
-        return Taken::Bytes(1);
-    }
-    Taken::Nothing
+    let &first = line.first()?;
+    (first == byte).then_some(1)
 }
 
-// Whether a line is of the form of the row that begins at `from`.
-fn row_fits(table: &[u8], from: usize, line: &[u8]) -> bool
-    ensures { result ≡ fits (drop from table.now) line.now }
+// Whether a line is of a row's form.
+fn fits(form: &[u8], line: &[u8]) -> bool
+    ensures { result ≡ fits form.now line.now }
 {
-    let mut at = 0;
-    let mut i = from;
-    while i < table.len() {
-        let byte = table[i];
-        if byte == LF {
-            return at == line.len();
-        }
-        let Taken::Bytes(n) = taken_by(line, at, byte) else {
+    let mut rest = line;
+    for &byte in form {
+        let Some(n) = taken_by(rest, byte) else {
             return false;
         };
-        at += n;
-        i += 1;
+        rest = &rest[n..];
     }
-    false
+    rest.is_empty()
 }
 
 // The number in a line's field, counted from 0; 0 where there is none.
 fn number_in(line: &[u8], index: usize) -> u64
     ensures { result ≡ number_in line.now index }
 {
-    let mut at = 0;
-    let mut left = index;
-    while left > 0 {
-        at = end_of(line, at, TAB);
-        if at >= line.len() {
-            return 0;
+    let field = line.split(|&byte| byte == TAB).nth(index);
+    field.and_then(base_numbers::number_of).unwrap_or(0)
+}
+
+// The numbers of a line's operands: behind its name, each in the field after its unit.
+fn numbers_of(line: &[u8]) -> [u64; 4]
+    ensures { result ≡ numbers_of line.now }
+{
+    [
+        number_in(line, 2),
+        number_in(line, 4),
+        number_in(line, 6),
+        number_in(line, 8),
+    ]
+}
+
+impl Name {
+    // The call of that name, of its operands' numbers.
+    fn call(self, numbers: [u64; 4]) -> Call
+        ensures { result ≡ call_at (place self) numbers }
+    {
+        let [a, b, c, d] = numbers;
+        let domain = Hpa(a);
+        let gpa = Gpa(b);
+        let level = c as usize;
+        match self {
+            Name::Create => Call::Create {
+                frame: Hpa(a),
+                key: b,
+            },
+            Name::KeyConfig => Call::KeyConfig { domain },
+            Name::AddCx => Call::AddCx {
+                domain,
+                frame: Hpa(b),
+            },
+            Name::Init => Call::Init { domain },
+            Name::SeptAdd => Call::SeptAdd {
+                domain,
+                gpa,
+                level,
+                frame: Hpa(d),
+            },
+            Name::PageAdd => Call::PageAdd {
+                domain,
+                gpa,
+                frame: Hpa(c),
+            },
+            Name::Finalize => Call::Finalize { domain },
+            Name::PageAug => Call::PageAug {
+                domain,
+                gpa,
+                frame: Hpa(c),
+            },
+            Name::Block => Call::Block { domain, gpa, level },
+            Name::Track => Call::Track { domain },
+            Name::Unblock => Call::Unblock { domain, gpa, level },
+            Name::PageRemove => Call::PageRemove { domain, gpa },
+            Name::SeptRemove => Call::SeptRemove { domain, gpa, level },
+            Name::FlushDone => Call::FlushDone { domain },
+            Name::KeyFree => Call::KeyFree { domain },
+            Name::Reclaim => Call::Reclaim { frame: Hpa(a) },
+            Name::ReadPage => Call::ReadPage { frame: Hpa(a) },
+            Name::ReadEntry => Call::ReadEntry { domain, gpa, level },
+            Name::CacheWb => Call::CacheWb,
         }
-        at += 1;
-        left -= 1;
-    }
-    match number_at(line, at) {
-        Number::Is(n) => n,
-        Number::No => 0,
     }
 }
 
-// The call of a row, of its operands' numbers. A row past the table counts as the first.
-fn built(row: usize, a: u64, b: u64, c: u64, d: u64) -> Call
-    ensures { result ≡ call_at row (a ∷ b ∷ c ∷ d ∷ []) }
-{
-    match row {
-        1 => Call::KeyConfig { domain: Hpa(a) },
-        2 => Call::AddCx {
-            domain: Hpa(a),
-            frame: Hpa(b),
-        },
-        3 => Call::Init { domain: Hpa(a) },
-        4 => Call::SeptAdd {
-            domain: Hpa(a),
-            gpa: Gpa(b),
-            level: c as usize,
-            frame: Hpa(d),
-        },
-        5 => Call::PageAdd {
-            domain: Hpa(a),
-            gpa: Gpa(b),
-            frame: Hpa(c),
-        },
-        6 => Call::Finalize { domain: Hpa(a) },
-        7 => Call::PageAug {
-            domain: Hpa(a),
-            gpa: Gpa(b),
-            frame: Hpa(c),
-        },
-        8 => Call::Block {
-            domain: Hpa(a),
-            gpa: Gpa(b),
-            level: c as usize,
-        },
-        9 => Call::Track { domain: Hpa(a) },
-        10 => Call::Unblock {
-            domain: Hpa(a),
-            gpa: Gpa(b),
-            level: c as usize,
-        },
-        11 => Call::PageRemove {
-            domain: Hpa(a),
-            gpa: Gpa(b),
-        },
-        12 => Call::SeptRemove {
-            domain: Hpa(a),
-            gpa: Gpa(b),
-            level: c as usize,
-        },
-        13 => Call::FlushDone { domain: Hpa(a) },
-        14 => Call::KeyFree { domain: Hpa(a) },
-        15 => Call::Reclaim { frame: Hpa(a) },
-        16 => Call::ReadPage { frame: Hpa(a) },
-        17 => Call::ReadEntry {
-            domain: Hpa(a),
-            gpa: Gpa(b),
-            level: c as usize,
-        },
-        18 => Call::CacheWb,
-        _ => Call::Create {
-            frame: Hpa(a),
-            key: b,
-        },
-    }
-}
-
-// The call of a row, with the numbers of a line.
-fn call_of(row: usize, line: &[u8]) -> Call
-    ensures { result ≡ call_at row (numbers_of line.now) }
-{
-    let a = number_in(line, 2);
-    let b = number_in(line, 4);
-    let c = number_in(line, 6);
-    let d = number_in(line, 8);
-    built(row, a, b, c, d)
-}
-
-pub fn read_line(line: &[u8]) -> Line
+pub fn read_line(line: &[u8]) -> Option<Call>
     ensures { result ≡ line_of line.now }
 {
     if line.len() > LINE_MOST_BYTES {
-        return Line::Unreadable;
+        return None;
     }
-    let table = TABLE;
-    let mut at = 0;
-    let mut row = 0;
-    while row < ROWS {
-        if row_fits(&table, at, line) {
-            return Line::Call(call_of(row, line));
-        }
-        at = end_of(&table, at, LF) + 1;
-        row += 1;
-    }
-    Line::Unreadable
+    let row = ROWS.iter().find(|row| fits(row.form, line));
+    row.map(|row| row.name.call(numbers_of(line)))
 }

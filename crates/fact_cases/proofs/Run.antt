@@ -1,15 +1,16 @@
 -- The nine lines of the paper's run, byte for byte.
 use Rattle.base_rules.specs.Basics.{◌≡◌, List, [], ◌∷◌, ◌++◌, ℕ, ◌+◌, ◌/◌, ◌%◌, true, false, ltb, length}
 use Rattle.base_rules.proofs.Facts.{refl, ltb-true, ltb-false}
+use Rattle.std.specs.Prelude.{Some, None, Ok, Err}
 use Prim.Native.String.{String}
 use Rattle.book_ledger.specs.Tables.{Tables}
-use Rattle.base_calls.specs.Answers.{values_of}
-use Rattle.base_calls.specs.declared.{Call.Call, Answer.Answer, Answer.TheVariants.Done, Answer.TheVariants.No, Answer.TheVariants.Page}
+use Rattle.base_calls.specs.Answers.{Answer, values_of}
+use Rattle.base_calls.specs.declared.{Call.Call, Fault.Fault, Reading.TheVariants.Done, Reading.TheVariants.Page, Refusal.TheVariants.No}
 use Rattle.call_carry.specs.Carry.{carried}
 use Rattle.call_host.specs.Calls.{plan_of, settled, rule_of}
 use Rattle.base_numbers.specs.Number.{nought, decimal}
 use Rattle.base_numbers.proofs.Decimals.{decimal_one, decimal_more}
-use Rattle.door_script.specs.{Text.bytes, Lines.line_of, declared.line.Line.Line}
+use Rattle.door_script.specs.{Text.bytes, Lines.line_of}
 use Rattle.door_answers.specs.Answers.{read_out, line_with, answer_line, unreadable_line}
 use Rattle.door_session.specs.Session.{on_line, answered}
 use Rattle.fact_cases.specs.{Cases.base, Cases.fresh_tables, Cases.run, Run.Spoken, Run.spoken, Run.heard, Run.Says, Run.AllSay, Run.whole_run}
@@ -22,9 +23,9 @@ run_append t [] ds = refl
 run_append t (c ∷ cs) ds = run_append (carried t (plan_of base t c)).tables cs ds
 
 said : (n : ℕ) (before : List Call) (text answer : String) (c : Call) (a : Answer)
-    → line_of (bytes text) ≡ Line.Call c → length (run fresh_tables before).frames ≡ 1024
+    → line_of (bytes text) ≡ Some c → length (run fresh_tables before).frames ≡ 1024
     → (carried (run fresh_tables before) (plan_of base (run fresh_tables before) c)).answer ≡ a → answer_line n a ≡ bytes answer
-    → Says n before (spoken text (Line.Call c) answer)
+    → Says n before (spoken text (Some c) answer)
 unfolding answered on_line rule_of settled heard run
 said n before text answer c a r l e w = record {
   read = r;
@@ -32,8 +33,8 @@ said n before text answer c a r l e w = record {
   leaves = λ g x y p. rw (r, past_13 (run fresh_tables before) g c l (run_ok fresh_tables start before) x y, run_append fresh_tables before (c ∷ []));
 }
 
-unread : (n : ℕ) (before : List Call) (text answer : String) → line_of (bytes text) ≡ Line.Unreadable → unreadable_line n ≡ bytes answer
-    → Says n before (spoken text Line.Unreadable answer)
+unread : (n : ℕ) (before : List Call) (text answer : String) → line_of (bytes text) ≡ None → unreadable_line n ≡ bytes answer
+    → Says n before (spoken text None answer)
 unfolding answered on_line heard run
 unread n before text answer r w = record { read = r; writes = λ g x y p. rw (r, w); leaves = λ g x y p. rw (r, run_append fresh_tables before []) }
 
@@ -44,7 +45,7 @@ digit n e = decimal_more n (ltb-false n 10 e)
 last : (n : ℕ) → ltb n 10 ≡ true → decimal n ≡ (nought + n) ∷ []
 last n e = decimal_one n (ltb-true n 10 e)
 
-written_8 : answer_line 8 (Page 2 (record { 0 = 1073741824 })) ≡ bytes "line\t8\tanswer\t0\ttype\t2\towner\t1073741824\n"
+written_8 : answer_line 8 (Ok (Page 2 (record { 0 = 1073741824 }))) ≡ bytes "line\t8\tanswer\t0\ttype\t2\towner\t1073741824\n"
 unfolding line_with read_out values_of
 written_8 = simp (digit, last)
 
@@ -56,12 +57,12 @@ also a b = (a, b)
 pub whole_run_fact : AllSay 1 [] whole_run
 unfolding AllSay whole_run heard run call_open line_open
 whole_run_fact =
-    also (said 1 _ _ _ _ Done refl refl refl refl) (
-    also (said 2 _ _ _ _ (No 10 1) refl refl refl refl) (
-    also (said 3 _ _ _ _ (No 2 0) refl refl refl refl) (
-    also (said 4 _ _ _ _ (No 1 0) refl refl refl refl) (
+    also (said 1 _ _ _ _ (Ok Done) refl refl refl refl) (
+    also (said 2 _ _ _ _ (Err (No Fault.Key 1)) refl refl refl refl) (
+    also (said 3 _ _ _ _ (Err (No Fault.Kind 0)) refl refl refl refl) (
+    also (said 4 _ _ _ _ (Err (No Fault.Operand 0)) refl refl refl refl) (
     also (unread 5 _ _ _ refl refl) (
-    also (said 6 _ _ _ _ Done refl refl refl refl) (
-    also (said 7 _ _ _ _ Done refl refl refl refl) (
-    also (said 8 _ _ _ _ (Page 2 (record { 0 = 1073741824 })) refl refl refl written_8) (
-    also (said 9 _ _ _ _ (No 4 0) refl refl refl refl) tt))))))))
+    also (said 6 _ _ _ _ (Ok Done) refl refl refl refl) (
+    also (said 7 _ _ _ _ (Ok Done) refl refl refl refl) (
+    also (said 8 _ _ _ _ (Ok (Page 2 (record { 0 = 1073741824 }))) refl refl refl written_8) (
+    also (said 9 _ _ _ _ (Err (No Fault.Pages 0)) refl refl refl refl) tt))))))))

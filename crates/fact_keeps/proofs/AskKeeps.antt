@@ -6,17 +6,17 @@ use Rattle.book_gauge.specs.declared.Gauge.{Gauge}
 use Rattle.book_ledger.specs.{Count.used_frames, Tables.Tables}
 use Rattle.book_range.specs.Range.{lent_ok}
 use Rattle.base_calls.specs.declared.Call.{Call}
-use Rattle.call_plan.specs.declared.edit.Plan.{Plan}
 use Rattle.call_carry.specs.Carry.{applied, swept_tables, carried}
 use Rattle.call_host.specs.Calls.{plan_of, gauge_after, settled, rule_of}
 use Rattle.call_run.specs.Runs.{used_by, knows, next, gauge_with, rule_with}
-use Rattle.fact_keeps.proofs.{Ranges.lent_of, Plans.Keep, Plans.says, Plans.does, Plans.sweeps, Plans.plan_keeps, AskUsed.counted_fact}
+use Rattle.fact_keeps.proofs.{Ranges.lent_of, Plans.Keep, Plans.says, Plans.reads, Plans.does, Plans.sweeps, Plans.plan_keeps, AskUsed.counted_fact}
+use Rattle.call_plan.specs.Edits.{Plan}
 
 module _ (base : Hpa) (t : Tables) where
   plan_used : {p : Plan} → Keep base t p → used_frames (carried t p).tables.frames ≡ used_by p t.frames (used_frames t.frames)
   unfolding carried used_by applied swept_tables
   plan_used k = elim k as (λ p _. used_frames (carried t p).tables.frames ≡ used_by p t.frames (used_frames t.frames))
-      [ says ↦ refl | does k ↦ counted_fact k.within.sized k.within.frames | sweeps _ ↦ refl ]
+      [ says ↦ refl | reads ↦ refl | does k ↦ counted_fact k.within.sized k.within.frames | sweeps _ ↦ refl ]
 
   kept : lent_ok base t ≡ true → (c : Call) → Keep base t (plan_of base t c)
   kept ok c = plan_keeps base t (lent_of base t ok) c

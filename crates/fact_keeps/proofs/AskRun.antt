@@ -1,5 +1,5 @@
 -- A run with one check at its start is the asks one after the other: every answer with what is read out, the tables and the gauge.
-use Rattle.std.specs.Prelude.{Float}
+use Rattle.std.specs.Prelude.{Float, Err}
 use Rattle.base_rules.specs.Basics.{◌≡◌, Bool, true, false, List, [], ◌∷◌, ℕ, zero, suc, ◌+◌, length, choose, given, sum_from}
 use Rattle.base_rules.proofs.Facts.{refl, ap, ◌∙◌, inl, inr, choose_both, length-replicate, both_left, both_right}
 use Rattle.base_units.specs.{Limits.frames_ok, declared.address.Hpa.Hpa}
@@ -7,10 +7,9 @@ use Rattle.book_gauge.specs.{Marks.marks_ok, Update.fresh_gauge, Update.with_mar
 use Rattle.book_gauge.proofs.Laws.{fresh_ok}
 use Rattle.book_ledger.specs.{Count.one_used, Count.used_frames, Sizes.sizes_of, Sizes.sizes_ok, Tables.Tables}
 use Rattle.book_range.specs.Range.{lent_ok}
-use Rattle.base_calls.specs.{Answers.values_of, declared.Answer.TheVariants.No, declared.Ask.Ask, declared.Call.Call}
+use Rattle.base_calls.specs.{Answers.values_of, declared.Ask.Ask, declared.Call.Call, declared.Refusal.TheVariants.No, declared.Fault.Fault}
 use Rattle.call_host.specs.Calls.{Outcome, outcome, rule_of, call_of, reset_of, marks_of}
-use Rattle.call_run.specs.declared.Run.{Run}
-use Rattle.call_run.specs.Runs.{knows, begun_of, next, known_reset, marks_with, host_with, next_of}
+use Rattle.call_run.specs.{declared.Run.Run, Runs.knows, Runs.begun_of, Runs.next, Runs.known_reset, Runs.marks_with, Runs.host_with, Runs.next_of}
 use Rattle.door_asks.specs.Asks.{ask_of}
 use Rattle.fact_keeps.specs.Runs.{ran, and_then, all_refused}
 use Rattle.fact_keeps.specs.AskRuns.{ask_fold, asks_from, once_of, Fails, hosts}
@@ -123,15 +122,15 @@ ask_run base t g l = asks_from_fact base t g l
 -- ---- where the check fails
 
 module _ (base : Hpa) (t : Tables) (g : Gauge) where
-  call_refused : (c : Call) → Fails base t g → call_of base t g c ≡ outcome (No 13 0) t g
+  call_refused : (c : Call) → Fails base t g → call_of base t g c ≡ outcome (Err (No Fault.Range 0)) t g
   unfolding call_of choose
   call_refused c (inl e) = rw e refl
-  call_refused c (inr e) = choose_both (λ (o : Outcome). o ≡ outcome (No 13 0) t g) (lent_ok base t) _ _ (λ _. rw e refl) (λ _. refl)
+  call_refused c (inr e) = choose_both (λ (o : Outcome). o ≡ outcome (Err (No Fault.Range 0)) t g) (lent_ok base t) _ _ (λ _. rw e refl) (λ _. refl)
 
   all_refused_fact : (cs : List Call) → Fails base t g → ask_fold base t g (hosts cs) ≡ ran (all_refused cs) t g
   unfolding ask_fold hosts all_refused given ask_of
   all_refused_fact [] e = refl
-  all_refused_fact (c ∷ cs) e = rw (call_refused c e) (ap (and_then (No 13 0)) (all_refused_fact cs e))
+  all_refused_fact (c ∷ cs) e = rw (call_refused c e) (ap (and_then (Err (No Fault.Range 0))) (all_refused_fact cs e))
 
   -- each answer is 13 and nothing changes
   pub asks_refused : (cs : List Call) → Fails base t g → once_of base t g (hosts cs) ≡ ran (all_refused cs) t g

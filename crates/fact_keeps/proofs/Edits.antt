@@ -1,11 +1,12 @@
 -- An edit whose parts lie in the tables and are in range keeps the range check: once for the parts, on any tables that pass it. A page that is
 -- listed and a record that is taken stand apart.
+use Rattle.std.specs.Prelude.{Some, None}
 use Rattle.base_rules.specs.Basics.{Bool, true, false, ℕ, ◌+◌, ◌%◌, ◌<◌, eqb, length, choose, ◌≡◌}
 use Rattle.base_rules.proofs.Facts.{arith, eqb-true, eqb-false, eq-eqb, ne_eqb, lt-ltb, le-ltb, choose_both, refl, sym, ◌∙◌, by_eq, by_lt}
 use Rattle.base_units.specs.{Limits.control_pages, declared.address.Hpa.Hpa, declared.address.Pfn.Pfn}
 use Rattle.book_ledger.specs.{Tables.Tables, declared.words.Domain.Domain}
 use Rattle.call_plan.proofs.Parts.{edit}
-use Rattle.call_plan.specs.declared.edit.{FrameEdit.FrameEdit, PageEdit.PageEdit, DomainEdit.DomainEdit, StockEdit.StockEdit, EntryEdit.EntryEdit}
+use Rattle.call_plan.specs.{declared.edit.StockEdit.StockEdit, Edits.FrameEdit, Edits.DomainEdit, Edits.EntryEdit}
 use Rattle.fact_keeps.specs.Views.{view}
 use Rattle.fact_keeps.proofs.Stores.{stored_other, new_domain, new_page, new_use, wiped_domain, wiped_page, FrameIn, DomainIn, StockIn, EntryIn, domain_kept}
 use Rattle.fact_keeps.proofs.Stores.{domain_set, page_kept, page_set, entry_kept, stock_kept, stock_table, stock_record, stock_given}
@@ -25,7 +26,7 @@ pub record StockSound (t : Tables) (se : StockEdit) : Type 0 where
   used : (k : ℕ) → new_use se (view t).used ((sizes_in t).tables + k) ≡ true → (view t).used ((sizes_in t).tables + k) ≡ true
   same : (wiped_domain se (view t).domain ≡ (view t).domain) × (wiped_page se (view t).control ≡ (view t).control)
 
-pub domain_stays : {t : Tables} → DomainSound t DomainEdit.Keep
+pub domain_stays : {t : Tables} → DomainSound t None
 unfolding new_domain
 domain_stays = record { inside = domain_kept; good = λ k g. g }
 
@@ -35,7 +36,7 @@ stock_stays = record { inside = stock_kept; used = λ k u. u; same = (refl, refl
 
 module _ {t : Tables} where
   pub domain_goes : {r : ℕ} {v : Domain} → r < (sizes_in t).records → DomainGood (length t.frames) v → v.listed ≡ ((view t).domain r).listed
-      → DomainSound t (DomainEdit.Set r v)
+      → DomainSound t (Some (r, v))
   unfolding new_domain
   domain_goes {r} {v} h g l = record {
     inside = domain_set h g;
@@ -75,7 +76,7 @@ module _ (base : Hpa) (t : Tables) (ok : Lent base t) {fe : FrameEdit} (fs : Fra
 
   -- an edit of these parts
   pub keep_edit : {de : DomainEdit} {se : StockEdit} {ee : EntryEdit} → DomainSound t de → StockSound t se → EntryIn t ee
-      → Kept base t (edit fe PageEdit.Keep de se ee)
+      → Kept base t (edit fe None de se ee)
   unfolding new_page
   keep_edit d s e = keep base t ok (record { sized = z; frames = fs; domains = d.inside; pages = page_kept; stocks = s.inside; entries = e })
       (λ k h u. rw (s.same.0, s.same.1) (d.good k (ok.ranged.record' k h (s.used k u))))
@@ -83,7 +84,7 @@ module _ (base : Hpa) (t : Tables) (ok : Lent base t) {fe : FrameEdit} (fs : Fra
   module _ (r : ℕ) (v : Domain) (h : r < (sizes_in t).records) (g : DomainGood (length t.frames) v) where
     -- a record's next page is listed
     pub keep_listed : (m : ℕ) (F : Pfn) → m ≡ ((view t).domain r).listed → m < control_pages → v.listed ≡ m + 1 → F.0 < length t.frames
-        → Kept base t (edit fe (PageEdit.Set r m F) (DomainEdit.Set r v) StockEdit.Keep EntryEdit.Keep)
+        → Kept base t (edit fe (Some (r, m, F)) (Some (r, v)) StockEdit.Keep None)
     unfolding new_domain new_page new_use wiped_domain wiped_page
     keep_listed m F m-is few l f =
         keep base t ok (record { sized = z; frames = fs; domains = domain_set h g; pages = page_set h; stocks = stock_kept; entries = entry_kept }) (λ k j u.
@@ -94,7 +95,7 @@ module _ (base : Hpa) (t : Tables) (ok : Lent base t) {fe : FrameEdit} (fs : Fra
 
     -- a record is taken (create): wiped, with no page listed
     pub keep_taken : (b : ℕ) → b ≡ (sizes_in t).tables + r → v.listed ≡ 0
-        → Kept base t (edit fe PageEdit.Keep (DomainEdit.Set r v) (StockEdit.Record b b r) EntryEdit.Keep)
+        → Kept base t (edit fe None (Some (r, v)) (StockEdit.Record b b r) None)
     unfolding new_domain new_page new_use wiped_domain wiped_page choose
     keep_taken b b-is l =
         let s : StockIn t (StockEdit.Record b b r) = stock_record {b = b} (omega arith) h in

@@ -5,7 +5,7 @@ use Rattle.base_units.specs.{Limits.table_entries, declared.address.Hpa.Hpa}
 use Rattle.book_stock.proofs.Bit.{room}
 use Rattle.book_stock.specs.Bits.{word_bits, word_of, bit_set, with_bit, set_use, spare_clear}
 use Rattle.book_ledger.specs.{Tables.Tables, Words.entry_from, declared.words.Frame.Frame, declared.words.Entry.Entry}
-use Rattle.call_plan.specs.declared.edit.{FrameEdit.FrameEdit, StockEdit.StockEdit, EntryEdit.EntryEdit, Edit.Edit}
+use Rattle.call_plan.specs.{declared.edit.StockEdit.StockEdit, declared.edit.Edit.Edit, Edits.FrameEdit, Edits.EntryEdit}
 use Rattle.call_carry.specs.Carry.{after_use, applied}
 use Rattle.fact_keeps.specs.Views.{view}
 use Rattle.fact_keeps.proofs.Stores.{FrameIn, frame_kept, frame_set, EntryIn, entry_kept, entry_set, StockIn, stock_kept, stock_table, stock_record}

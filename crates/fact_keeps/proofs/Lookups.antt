@@ -5,17 +5,17 @@ use Rattle.base_units.specs.declared.address.{Hpa.Hpa, Gpa.Gpa, Pfn.Pfn}
 use Rattle.book_ledger.specs.{Codes.NDA, Codes.TDR, Codes.EPT, Codes.NL_MAPPED, Codes.NL_BLOCKED, Tables.Tables, declared.words.Entry.Entry}
 use Rattle.book_range.specs.Range.{frame_limits}
 use Rattle.book_walk.specs.Walk.{entry_type, own_frame, walk_from}
-use Rattle.base_calls.specs.declared.Answer.{Answer}
 use Rattle.call_plan.specs.{Lookup.domain_for, Entries.entry_for, declared.lookup.Subject.Subject}
 use Rattle.fact_keeps.specs.Views.{kind, number, view}
 use Rattle.fact_keeps.proofs.Ranged.{IsBlock, between_true, sizes_in, bit_is, root_is, Lent, passed}
 use Rattle.fact_keeps.proofs.Facts.{DomainGood, domain_good, in_window_fact}
-use Rattle.fact_keeps.proofs.Says.{LookupSays, is, not, ReachSays, reached, missed, WalkSays, at, stopped, foreign, on_walk_fact}
+use Rattle.fact_keeps.proofs.Says.{Says, is, not, ReachSays, WalkSays, at, stopped, foreign, on_walk_fact}
+use Rattle.base_calls.specs.declared.Refusal.{Refusal}
 
 -- ---- what a lookup finds; of a refusal, and of a frame that isn't the domain's, nothing is said
 
-pub data Refused (a : Answer) : Type 0 where
-  refused : Refused a
+pub data Refused (r : Refusal) : Type 0 where
+  refused : Refused r
 
 pub data Unknown : Type 0 where
   unknown : Unknown
@@ -62,10 +62,10 @@ module _ (base : Hpa) (t : Tables) (ok : Lent base t) where
   record_low f k = rw k at (number_low f (λ q. omega arith))
 
   -- on any tables a refusal may be any
-  pub domain_for_fact : (n : Pfn) → LookupSays (IsDomain t) Refused (domain_for t n)
+  pub domain_for_fact : (n : Pfn) → Says (IsDomain t) Refused (domain_for t n)
   unfolding domain_for given
   domain_for_fact n =
-      let P = LookupSays (IsDomain t) Refused in
+      let P = Says (IsDomain t) Refused in
       choose_both P _ _ _ (λ e. choose_both P _ _ _ (λ u.
       let k : kind (view t) n.0 ≡ TDR = eqb-true _ _ e in
       let r = record_low n.0 k in
@@ -98,5 +98,5 @@ module _ (base : Hpa) (t : Tables) (ok : Lent base t) where
     unfolding entry_for given
     entry_for_fact least most =
         let P = ReachSays (IsEntry t least most) Refused in
-        on_walk_fact P walk_for _ _ _ (λ j k. missed refused) (λ _. missed refused) (λ b i h. choose_both P _ _ _
-        (λ e. reached (record { block = h; state = between_true _ _ _ e })) (λ _. missed refused))
+        on_walk_fact P walk_for _ _ _ (λ j k. not refused) (λ _. not refused) (λ b i h. choose_both P _ _ _
+        (λ e. is (record { block = h; state = between_true _ _ _ e })) (λ _. not refused))

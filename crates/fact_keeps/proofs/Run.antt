@@ -1,11 +1,12 @@
 -- A run with one check at its start is the calls one after the other: every answer with what is read out, the tables and the gauge.
+use Rattle.std.specs.Prelude.{Err}
 use Rattle.base_rules.specs.Basics.{◌≡◌, Bool, true, false, List, [], ◌∷◌, ◌⊎◌, length, choose, given}
 use Rattle.base_rules.proofs.Facts.{refl, sym, ap, ◌∙◌, inl, inr, choose_both}
 use Rattle.base_units.specs.declared.address.Hpa.{Hpa}
 use Rattle.book_gauge.specs.{Marks.marks_ok, declared.Gauge.Gauge}
 use Rattle.book_ledger.specs.{Count.used_frames, Tables.Tables}
 use Rattle.book_range.specs.Range.{lent_ok}
-use Rattle.base_calls.specs.declared.{Answer.TheVariants.No, Call.Call}
+use Rattle.base_calls.specs.declared.{Call.Call, Refusal.TheVariants.No, Fault.Fault}
 use Rattle.call_host.specs.Calls.{Outcome, outcome, gauge_after, settled, rule_of, call_of}
 use Rattle.fact_keeps.specs.Runs.{Ran, ran, and_then, fold_of, run_from, all_refused, run_of}
 use Rattle.fact_keeps.proofs.Keeps.{rule_keeps, rule_length, rule_with_fact}
@@ -24,15 +25,15 @@ module _ (base : Hpa) (t : Tables) (g : Gauge) where
 
   -- ---- what a call is where the check doesn't pass
 
-  call_refused : (c : Call) → (lent_ok base t ≡ false) ⊎ (marks_in t g ≡ false) → call_of base t g c ≡ outcome (No 13 0) t g
+  call_refused : (c : Call) → (lent_ok base t ≡ false) ⊎ (marks_in t g ≡ false) → call_of base t g c ≡ outcome (Err (No Fault.Range 0)) t g
   unfolding call_of choose
   call_refused c (inl e) = rw e refl
-  call_refused c (inr e) = choose_both (λ (o : Outcome). o ≡ outcome (No 13 0) t g) (lent_ok base t) _ _ (λ _. rw e refl) (λ _. refl)
+  call_refused c (inr e) = choose_both (λ (o : Outcome). o ≡ outcome (Err (No Fault.Range 0)) t g) (lent_ok base t) _ _ (λ _. rw e refl) (λ _. refl)
 
   pub all_refused_fact : (cs : List Call) → (lent_ok base t ≡ false) ⊎ (marks_in t g ≡ false) → fold_of base t g cs ≡ ran (all_refused cs) t g
   unfolding fold_of all_refused given
   all_refused_fact [] e = refl
-  all_refused_fact (c ∷ cs) e = rw (call_refused c e) (ap (and_then (No 13 0)) (all_refused_fact cs e))
+  all_refused_fact (c ∷ cs) e = rw (call_refused c e) (ap (and_then (Err (No Fault.Range 0))) (all_refused_fact cs e))
 
 -- ---- the run
 

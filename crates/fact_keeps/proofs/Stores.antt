@@ -1,4 +1,5 @@
 -- What an edit leaves of the tables, read number by number: one law for each of its parts, over whatever the part says.
+use Rattle.std.specs.Prelude.{Some, None}
 use Rattle.base_rules.specs.Basics.{◌≡◌, Bool, true, false, List, ℕ, ◌+◌, ◌*◌, ◌/◌, ◌%◌, ◌<◌, eqb, length, get_or, choose}
 use Rattle.base_rules.proofs.Facts.{refl, sym, ap, ◌∙◌, arith, eqb-true, eqb-false, if_eq, if_ne, choose_both}
 use Rattle.base_units.specs.{Limits.table_entries, Limits.control_pages, Limits.record_words, declared.address.Pfn.Pfn}
@@ -9,12 +10,13 @@ use Rattle.book_ledger.specs.Words.{domain_from, entry_from}
 use Rattle.book_ledger.specs.declared.words.{Frame.Frame, Domain.Domain, Entry.Entry}
 use Rattle.book_ledger.proofs.Lens.{frame_same, frame_other, frame_length, word_length, domain_same, domain_other, page_of_domain, page_same, page_other}
 use Rattle.book_ledger.proofs.Lens.{domain_of_page, entry_same, entry_other, entry_length}
-use Rattle.call_plan.specs.declared.edit.{FrameEdit.FrameEdit, PageEdit.PageEdit, DomainEdit.DomainEdit, StockEdit.StockEdit, EntryEdit.EntryEdit, Edit.Edit}
+use Rattle.call_plan.specs.declared.edit.{StockEdit.StockEdit, Edit.Edit}
 use Rattle.call_plan.proofs.Parts.{edit}
 use Rattle.call_carry.specs.Carry.{after_frame, after_page, after_domain, after_entry, after_use, after_record, after_block, applied}
 use Rattle.fact_keeps.specs.Views.{View, view, frame as pfn}
 use Rattle.fact_keeps.proofs.{Facts.DomainGood, Facts.domain_fits, Frames.frame_fits, Frames.entry_fits}
 use Rattle.fact_keeps.proofs.Ranged.{IsBlock, Sized, frame_good, entry_good, sizes_in}
+use Rattle.call_plan.specs.Edits.{FrameEdit, PageEdit, DomainEdit, EntryEdit, to_entry}
 
 -- ---- what each part leaves of a view
 
@@ -49,16 +51,16 @@ module _ {A : Type 0} (w : ℕ) (g : ℕ → ℕ → A) (b i : ℕ) (v : A) (c j
   cell_other d = sym (cell_by (g c j) (λ p q. absurd (d p q)) (λ _. refl))
 
 unfoldable pub new_frame : FrameEdit → (ℕ → Frame) → ℕ → Frame
-new_frame fe g f = elim fe [ FrameEdit.Keep ↦ g f | FrameEdit.Set n v ↦ stored g n.0 v f ]
+new_frame fe g f = elim fe [ None ↦ g f | Some (n, v) ↦ stored g n.0 v f ]
 
 unfoldable pub new_domain : DomainEdit → (ℕ → Domain) → ℕ → Domain
-new_domain de g r = elim de [ DomainEdit.Keep ↦ g r | DomainEdit.Set n v ↦ stored g n v r ]
+new_domain de g r = elim de [ None ↦ g r | Some (n, v) ↦ stored g n v r ]
 
 unfoldable pub new_page : PageEdit → (ℕ → ℕ → ℕ) → ℕ → ℕ → ℕ
-new_page pe g r i = elim pe [ PageEdit.Keep ↦ g r i | PageEdit.Set n k v ↦ cell control_pages g n k v.0 r i ]
+new_page pe g r i = elim pe [ None ↦ g r i | Some (n, k, v) ↦ cell control_pages g n k v.0 r i ]
 
 unfoldable pub new_entry : EntryEdit → (ℕ → ℕ → Entry) → ℕ → ℕ → Entry
-new_entry ee g b i = elim ee [ EntryEdit.Keep ↦ g b i | EntryEdit.Set n k v ↦ cell table_entries g n k v b i ]
+new_entry ee g b i = elim ee [ None ↦ g b i | Some (s, v) ↦ cell table_entries g s.block s.index v b i ]
 
 unfoldable pub new_use : StockEdit → (ℕ → Bool) → ℕ → Bool
 new_use se g b = elim se [
@@ -110,20 +112,20 @@ pub record After (s s' : View) (e : Edit) : Type 0 where
 -- ---- an edit inside the tables, of numbers in range
 
 pub data FrameIn (t : Tables) : FrameEdit → Type 0 where
-  frame_kept : FrameIn t (FrameEdit.Keep)
-  frame_set : {n : Pfn} {v : Frame} → n.0 < length t.frames → frame_good (sizes_in t) v ≡ true → FrameIn t (FrameEdit.Set n v)
+  frame_kept : FrameIn t None
+  frame_set : {n : Pfn} {v : Frame} → n.0 < length t.frames → frame_good (sizes_in t) v ≡ true → FrameIn t (Some (n, v))
 
 pub data DomainIn (t : Tables) : DomainEdit → Type 0 where
-  domain_kept : DomainIn t (DomainEdit.Keep)
-  domain_set : {r : ℕ} {v : Domain} → r < (sizes_in t).records → DomainGood (length t.frames) v → DomainIn t (DomainEdit.Set r v)
+  domain_kept : DomainIn t None
+  domain_set : {r : ℕ} {v : Domain} → r < (sizes_in t).records → DomainGood (length t.frames) v → DomainIn t (Some (r, v))
 
 pub data PageIn (t : Tables) : PageEdit → Type 0 where
-  page_kept : PageIn t (PageEdit.Keep)
-  page_set : {r i : ℕ} {n : Pfn} → r < (sizes_in t).records → PageIn t (PageEdit.Set r i n)
+  page_kept : PageIn t None
+  page_set : {r i : ℕ} {n : Pfn} → r < (sizes_in t).records → PageIn t (Some (r, i, n))
 
 pub data EntryIn (t : Tables) : EntryEdit → Type 0 where
-  entry_kept : EntryIn t (EntryEdit.Keep)
-  entry_set : {b i : ℕ} {v : Entry} → IsBlock t b → entry_good (length t.frames) v ≡ true → EntryIn t (EntryEdit.Set b i v)
+  entry_kept : EntryIn t None
+  entry_set : {b i : ℕ} {v : Entry} → IsBlock t b → entry_good (length t.frames) v ≡ true → EntryIn t (to_entry b i v)
 
 pub data StockIn (t : Tables) : StockEdit → Type 0 where
   stock_kept : StockIn t (StockEdit.Keep)
@@ -154,10 +156,10 @@ Stays f = (l : List ℕ) → length (f l) ≡ length l
 pub same_lengths : (e : Edit) (t : Tables) → SameLengths t (applied e t)
 unfolding applied after_frame after_page after_domain after_entry after_use after_record after_block set_page set_domain
 same_lengths e t = record {
-  frames = elim e.frame as (λ x. length (after_frame x t.frames) ≡ length t.frames) [ FrameEdit.Keep ↦ refl | FrameEdit.Set n v ↦ frame_length _ n v ];
+  frames = elim e.frame as (λ x. length (after_frame x t.frames) ≡ length t.frames) [ None ↦ refl | Some (n, v) ↦ frame_length _ n v ];
   domains =
-      elim e.page as (λ x. Stays (after_page x)) [ PageEdit.Keep ↦ λ l. refl | PageEdit.Set r i v ↦ λ l. word_length l r _ v.0 ] _
-      ∙ elim e.domain as (λ x. Stays (after_domain x)) [ DomainEdit.Keep ↦ λ l. refl | DomainEdit.Set r v ↦ λ l. word_length l r 0 _ ] _
+      elim e.page as (λ x. Stays (after_page x)) [ None ↦ λ l. refl | Some (r, i, v) ↦ λ l. word_length l r _ v.0 ] _
+      ∙ elim e.domain as (λ x. Stays (after_domain x)) [ None ↦ λ l. refl | Some (r, v) ↦ λ l. word_length l r 0 _ ] _
       ∙ elim e.stock as (λ x. length (after_record x t.domains) ≡ length t.domains)
       [ StockEdit.Keep ↦ refl | StockEdit.Table b ↦ refl | StockEdit.Record bit b r ↦ wiped_length _ _ r | StockEdit.Give b ↦ refl ];
   stocks = elim e.stock as (λ x. length (after_use x t.stock) ≡ length t.stock) [
@@ -168,7 +170,7 @@ same_lengths e t = record {
         false
   ];
   entries =
-      elim e.entry as (λ x. Stays (after_entry x)) [ EntryEdit.Keep ↦ λ l. refl | EntryEdit.Set b i v ↦ λ l. entry_length l b i v ] _
+      elim e.entry as (λ x. Stays (after_entry x)) [ None ↦ λ l. refl | Some (s, v) ↦ λ l. entry_length l s.block s.index v ] _
       ∙ elim e.stock as (λ x. length (after_block x t.entries) ≡ length t.entries)
       [ StockEdit.Keep ↦ refl | StockEdit.Table b ↦ wiped_length _ _ b | StockEdit.Record bit b r ↦ wiped_length _ _ b | StockEdit.Give b ↦ refl ];
 }
@@ -238,17 +240,17 @@ unfolding applied after_page after_domain after_entry
 after t e w =
     let z = w.sized in
     let s = stock_after t z w.stocks in
-    let stocks = same_lengths (edit (FrameEdit.Keep) (PageEdit.Keep) (DomainEdit.Keep) e.stock (EntryEdit.Keep)) t in
-    let records = same_lengths (edit (FrameEdit.Keep) (PageEdit.Keep) e.domain e.stock (EntryEdit.Keep)) t in
+    let stocks = same_lengths (edit None None None e.stock None) t in
+    let records = same_lengths (edit None None e.domain e.stock None) t in
     record {
       frames = frames_after t z w.frames;
       domains = λ r.
           elim e.page as (λ x. (l : List ℕ) → domain_at (after_page x l) r ≡ domain_at l r)
-          [ PageEdit.Keep ↦ λ l. refl | PageEdit.Set k i n ↦ λ l. domain_of_page l k i n r ] _
+          [ None ↦ λ l. refl | Some (k, i, n) ↦ λ l. domain_of_page l k i n r ] _
           ∙ domains_after t z _ stocks.domains _ w.domains r (s.domains r);
       controls = λ r i. pages_after t z _ records.domains _ w.pages r i
           (elim e.domain as (λ x. (l : List ℕ) → (page_at (after_domain x l) r i).0 ≡ (page_at l r i).0)
-          [ DomainEdit.Keep ↦ λ l. refl | DomainEdit.Set k v ↦ λ l. ap (λ (x : Pfn). x.0) (page_of_domain l k v r i) ] _ ∙ s.pages r i);
+          [ None ↦ λ l. refl | Some (k, v) ↦ λ l. ap (λ (x : Pfn). x.0) (page_of_domain l k v r i) ] _ ∙ s.pages r i);
       entries = λ b i. entries_after t z _ stocks.entries _ w.entries b i (s.entries b i);
       uses = s.uses;
     }

@@ -3,11 +3,11 @@ use Rattle.base_rules.specs.Basics.{◌≡◌, List, ℕ, zero, suc, ◌+◌, �
 use Rattle.base_rules.proofs.Facts.{refl, ap, arith, eq-or-lt_of_le, ⊎_elim, choose_both}
 use Rattle.book_ledger.specs.{Count.one_used, Count.used_frames, Tables.Tables, Tables.set_frame}
 use Rattle.book_ledger.proofs.Lens.{frame_same, frame_other, frame_length}
-use Rattle.call_plan.specs.declared.edit.FrameEdit.{FrameEdit}
 use Rattle.call_carry.specs.Carry.{after_frame}
 use Rattle.fact_keeps.proofs.{Ranged.Sized, Frames.frame_fits}
 use Rattle.fact_keeps.proofs.Stores.{stored, stored_same, stored_other, FrameIn, frame_kept, frame_set}
 use Rattle.fact_keeps.specs.{Views.frame, Runs.is_used, Runs.used_after}
+use Rattle.call_plan.specs.Edits.{FrameEdit}
 
 -- ---- a sum whose terms are the same but for the one at n
 

@@ -1,14 +1,16 @@
 -- A run of calls that checks its tables and marks once, and carries the count of used frames along by value.
-use Rattle.std.specs.Prelude.{ℕ, ◌+◌, ◌-◌, List, [], ◌∷◌, length, eqb}
+use Rattle.std.specs.Prelude.{ℕ, ◌+◌, ◌-◌, List, [], ◌∷◌, length, eqb, Some, None, Ok, Err}
 use Rattle.base_rules.specs.Basics.{choose, need, given}
 use Rattle.base_units.specs.declared.address.Hpa.{Hpa}
 use Rattle.book_gauge.specs.{Marks.marks_ok, Update.after, declared.Gauge.Gauge}
 use Rattle.book_ledger.specs.{Codes.NDA, Count.one_used, Count.used_frames, Tables.Tables, declared.words.Frame.Frame}
 use Rattle.book_range.specs.Range.{lent_ok}
-use Rattle.base_calls.specs.{Answers.values_of, declared.Answer.Answer, declared.Answer.TheVariants.No, declared.Call.Call, Operands.NONE}
-use Rattle.call_plan.specs.declared.edit.{FrameEdit.FrameEdit, Plan.Plan, Plan.TheVariants.Say, Plan.TheVariants.Do, Plan.TheVariants.Each}
+use Rattle.base_calls.specs.{Answers.values_of, declared.Call.Call, Operands.NONE, Answers.Answer, declared.Refusal.TheVariants.No}
 use Rattle.call_carry.specs.Carry.{carried}
 use Rattle.call_host.specs.Calls.{Outcome, outcome, plan_of, call_of}
+use Rattle.call_plan.specs.Edits.{FrameEdit, Plan}
+use Rattle.call_plan.specs.declared.edit.Deed.TheVariants.{Do, Each, Tell}
+use Rattle.base_calls.specs.declared.Fault.{Fault}
 
 -- ---- the count, carried by value: less one if the frame was used, one more if it is now
 
@@ -16,13 +18,14 @@ unfoldable pub is_used : Frame → ℕ
 is_used f = choose (eqb f.kind NDA) 0 1
 
 unfoldable pub used_after : FrameEdit → List ℕ → ℕ → ℕ
-used_after (FrameEdit.Keep) fs used = used
-used_after (FrameEdit.Set n f) fs used = used - one_used fs n.0 + is_used f
+used_after None fs used = used
+used_after (Some (n, f)) fs used = used - one_used fs n.0 + is_used f
 
 unfoldable pub used_by : Plan → Tables → ℕ → ℕ
-used_by (Say a) t used = used
-used_by (Do e) t used = used_after e.frame t.frames used
-used_by (Each w) t used = used
+used_by (Err r) t used = used
+used_by (Ok (Tell r)) t used = used
+used_by (Ok (Do e)) t used = used_after e.frame t.frames used
+used_by (Ok (Each w)) t used = used
 
 -- ---- a call's own rule with the count carried: `rule_of`, and the count for the next call
 
@@ -71,7 +74,7 @@ run_from base t g used (c ∷ cs) =
 -- each call answered 13
 unfoldable pub all_refused : List Call → List Answer
 all_refused [] = []
-all_refused (c ∷ cs) = No 13 NONE ∷ all_refused cs
+all_refused (c ∷ cs) = Err (No Fault.Range NONE) ∷ all_refused cs
 
 -- the lent tables and the lent gauge's marks once, then every call's own rule
 unfoldable pub run_of : Hpa → Tables → Gauge → List Call → Ran

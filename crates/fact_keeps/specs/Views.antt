@@ -1,6 +1,7 @@
 -- The lent tables, read number by number.
+use Rattle.std.specs.Prelude.{Option}
 use Rattle.base_rules.specs.Basics.{ℕ, Bool, length}
-use Rattle.base_units.specs.{Address.frame_of, declared.address.Hpa.Hpa, declared.address.Pfn.Pfn, declared.address.Place.Place}
+use Rattle.base_units.specs.{Address.frame_of, declared.address.Hpa.Hpa, declared.address.Pfn.Pfn}
 use Rattle.book_stock.specs.Bits.{in_use}
 use Rattle.book_ledger.specs.Tables.{Tables, frame_at, domain_at, page_at, entry_at}
 use Rattle.book_ledger.specs.declared.words.{Frame.Frame, Domain.Domain, Entry.Entry}
@@ -49,5 +50,5 @@ view t = record {
   used = in_use t.stock;
 }
 
-abbrev pub place_in : Hpa → Tables → Hpa → Place
+abbrev pub place_in : Hpa → Tables → Hpa → Option Pfn
 place_in base t hpa = frame_of base (length t.frames) hpa

@@ -1,13 +1,14 @@
 -- Document 01's third demand: what every reached state has, and the demand from it.
+use Rattle.std.specs.Prelude.{Some, Ok, Err}
 use Rattle.base_rules.specs.Basics.{◌≡◌, true, false, List, [], ℕ, ◌<◌, eqb, length, choose, given}
 use Rattle.base_rules.proofs.Facts.{refl, sym, ap, ◌∙◌, subst, true≢false, arith, eqb-true, eq-eqb, choose_both}
 use lib.Ieee.{Float}
-use Rattle.base_units.specs.declared.address.{Hpa.Hpa, Place.Place}
+use Rattle.base_units.specs.declared.address.Hpa.{Hpa}
 use Rattle.book_gauge.specs.{Marks.marks_ok, declared.Gauge.Gauge}
 use Rattle.book_ledger.specs.{Codes.NDA, Codes.TDR, Codes.BLOCKED_LIFE, Codes.WRITTEN_BACK, Tables.Tables, declared.words.Frame.Frame}
 use Rattle.book_ledger.specs.declared.words.Domain.{Domain}
-use Rattle.base_calls.specs.{Answers.values_of, Answers.number_of, declared.Answer.Answer, declared.Call.Call}
-use Rattle.call_plan.specs.{Edits.with_life, declared.edit.Plan.Plan}
+use Rattle.base_calls.specs.{Answers.values_of, Answers.number_of, declared.Call.Call, declared.Fault.Fault, declared.Refusal.TheVariants.No}
+use Rattle.call_plan.specs.Edits.{with_life, Plan}
 use Rattle.call_domains.specs.Domains.{write_back}
 use Rattle.call_carry.specs.Carry.{carried, applied}
 use Rattle.call_host.specs.Calls.{Outcome, outcome, plan_of, call_of, reset_of, marks_of, rule_of, settled}
@@ -20,6 +21,7 @@ use Rattle.fact_ownership.proofs.Written.{Swept, written_back_fact, swept_sound,
 use Rattle.fact_keeps.proofs.{Stores.SameLengths, Stores.same_lengths, Stores.after, Plans.Keep, Plans.does, Plans.sweeps, Plans.plan_keeps}
 use Rattle.fact_keeps.proofs.{Sweeps.swept_domain, Sweeps.AfterSweep, Sweeps.sweep_lengths, Sweeps.keep_sweep, Ranged.bit_is, Lookups.record_low}
 use Rattle.fact_keeps.proofs.{Ranged.SizesOk, Ranged.of_lent, Fresh.zeros, Fresh.zero_frame, Fresh.zero_unused, Fresh.zeros_lent}
+use Rattle.fact_ownership.proofs.Facts.{refused_some, reads_none}
 
 -- ---- a fresh start
 
@@ -54,7 +56,7 @@ pub record Answered (base : Hpa) (t : Tables) (g : Gauge) (l : Lists) (c : Call)
   pub state : State base o.tables (left_by base t c o l)
   pub mild : number_of o.answer < 14
   pub few : marks_ok g.raise g.clear (length t.frames) ≡ true → number_of o.answer < 13
-  pub alone : (c ≡ Call.CacheWb → ⊥) → Accepted o → (e : ℕ) → kind (view t) e ≡ TDR → (subject base t (role_of c) ≡ Place.At (frame e) → ⊥)
+  pub alone : (c ≡ Call.CacheWb → ⊥) → Accepted o → (e : ℕ) → kind (view t) e ≡ TDR → (subject base t (role_of c) ≡ Some (frame e) → ⊥)
       → Untouched (extent t) (view t) (view o.tables) e
 
 same_extent : {t t' : Tables} → SameLengths t t' → extent t' ≡ extent t
@@ -80,23 +82,24 @@ sweeping {base} {t} st a = record {
 module _ {base : Hpa} {t : Tables} (g : Gauge) {l : Lists} (st : State base t l) (c : Call) where
   by_plan : {p : Plan} → Good base t l c p → Keep base t p → Answered base t g l c (settled g (carried t p))
   unfolding settled carried choose values_of
-  by_plan (answers {a} m) _ = record {
-    state = choose_both (State base t) (eqb (number_of a) _) _ l (λ q. absurd (omega (arith, m.some, eqb-true (number_of a) _ q))) (λ _. st);
+  by_plan (answers {r} m) _ = record {
+    state = choose_both (State base t) (eqb (number_of (Err r)) _) _ l
+        (λ q. absurd (omega (arith, refused_some r, eqb-true (number_of (Err r)) _ q))) (λ _. st);
     mild = omega (arith, m.few);
     few = λ _. m.few;
-    alone = λ _ q. absurd (omega (arith, m.some));
+    alone = λ _ q. absurd (omega (arith, refused_some r));
   }
-  by_plan (reading {a} r f) _ = record {
-    state = rw (eq-eqb (number_of a) 0 r, f) st;
-    mild = omega arith;
-    few = λ _. omega arith;
+  by_plan (reading {r} f) _ = record {
+    state = rw (eq-eqb (number_of (Ok r)) 0 (reads_none r), f) st;
+    mild = omega (arith, reads_none r);
+    few = λ _. omega (arith, reads_none r);
     alone = λ _ _ e k ne. search;
   }
   by_plan (steps {e} {gone} {come} n su d) (does k) = record {
     state = record { lent = k.lent; ok = now; tidy = rw (same_extent (same_lengths e t)) now_does.tidy };
     mild = omega arith;
     few = λ _. omega arith;
-    alone = λ _ _ x h ne. untouched st.ok now_does.shift x h (λ z. ne (su ∙ ap (λ (y : ℕ). Place.At (frame y)) (sym z)));
+    alone = λ _ _ x h ne. untouched st.ok now_does.shift x h (λ z. ne (su ∙ ap (λ (y : ℕ). Some (frame y)) (sym z)));
   }
     where
       now_does : Does t (view (applied e t)) l (left base t (role_of c) l) n.0 gone come
@@ -114,7 +117,7 @@ module _ {base : Hpa} {t : Tables} (g : Gauge) {l : Lists} (st : State base t l)
         alone = λ ne. absurd (ne is);
       }
 
-  thirteen : marks_ok g.raise g.clear (length t.frames) ≡ false → Answered base t g l c (outcome (Answer.No 13 0) t g)
+  thirteen : marks_ok g.raise g.clear (length t.frames) ≡ false → Answered base t g l c (outcome (Err (No Fault.Range 0)) t g)
   unfolding values_of choose
   thirteen u = record { state = st; mild = omega arith; few = λ v. absurd (true≢false (sym v ∙ u)); alone = λ _ a. absurd (omega arith) }
 

@@ -1,4 +1,5 @@
 -- What the domain, the walk and the entry of a call are in a sound state that answer 13 has nothing to say of: plan/specs' own lookups, once for all calls.
+use Rattle.std.specs.Prelude.{Ok}
 use Rattle.base_rules.specs.Basics.{◌≡◌, Bool, true, ℕ, zero, suc, ◌<◌, ◌≤◌, ◌+◌, length, ltb, choose, given}
 use Rattle.base_rules.proofs.Facts.{refl, sym, ◌∙◌, true≢false, arith, eqb-true, eq-eqb, ne_eqb, lt-ltb, choose_both, by_eq}
 use Rattle.base_levels.specs.Level.{top_level, index_at}
@@ -6,15 +7,16 @@ use Rattle.base_units.specs.{Limits.table_entries, declared.address.Hpa.Hpa, dec
 use Rattle.book_ledger.specs.{Codes.NDA, Codes.TDR, Codes.EPT, Codes.FREE, Codes.NL_MAPPED, Tables.Tables}
 use Rattle.book_ledger.specs.declared.words.{Domain.Domain, Entry.Entry}
 use Rattle.book_walk.specs.Walk.{entry_type, own_frame, walk_from}
-use Rattle.call_plan.specs.{Lookup.domain_for, Entries.entry_for, declared.lookup.Subject.Subject, declared.lookup.Lookup.Lookup}
+use Rattle.call_plan.specs.{Lookup.domain_for, Entries.entry_for, declared.lookup.Subject.Subject}
 use Rattle.fact_keeps.specs.Views.{kind, number, frame, view}
 use Rattle.fact_ownership.specs.Owned.{points, found, tree, Keyed, Belongs, root_block}
 use Rattle.fact_ownership.specs.{Reached.extent, Reached.Lists, Always.a_record, Always.a_table}
 use Rattle.fact_ownership.proofs.{Walk.Path·to, Walk.here, Walk.down, Domain.Mine, Domain.owns_size, Tidy.Tidy}
 use Rattle.fact_ownership.proofs.{Sound.held, Sound.Sound, Sound.OnWay, Room.entry_mine, Room.has_child_fact, Room.child_room}
 use Rattle.fact_keeps.proofs.{Ranged.between_true, Ranged.both_of, Ranged.Lent, Ranged.bit_is, Ranged.root_is, Facts.in_window_fact, Lookups.record_low}
-use Rattle.fact_keeps.proofs.Says.{LookupSays, is, not, ReachSays, reached, missed, WalkSays, at, stopped, on_walk_fact}
+use Rattle.fact_keeps.proofs.Says.{Says, is, not, ReachSays, WalkSays, at, stopped, on_walk_fact}
 use Rattle.fact_ownership.proofs.Facts.{Mild, mild_no, mild_stop, table_shape, fits_state}
+use Rattle.base_calls.specs.declared.Fault.{Fault}
 
 pub record State (base : Hpa) (t : Tables) (l : Lists) : Type 0 where
   pub lent : Lent base t
@@ -52,15 +54,15 @@ pub record IsEntry (t : Tables) (d least most b i : ℕ) (e : Entry) : Type 0 wh
 
 module _ {base : Hpa} {t : Tables} {l : Lists} (st : State base t l) where
   -- a TDR's record is in use, and its root's block is the record's
-  pub domain_is_fact : (n : Pfn) → kind (view t) n.0 ≡ TDR → domain_for t n ≡ Lookup.Is (looked t n.0)
+  pub domain_is_fact : (n : Pfn) → kind (view t) n.0 ≡ TDR → domain_for t n ≡ Ok (looked t n.0)
   unfolding domain_for given choose
   domain_is_fact n k =
       let low = record_low base t st.lent n.0 k in
       rw (eq-eqb (kind (view t) n.0) TDR k, bit_is t _ low, root_is t _ low, st.ok.used TDR n.0 a_record k) refl
 
-  pub domain_for_fact : (n : Pfn) → LookupSays (IsDomain t n.0) Mild (domain_for t n)
+  pub domain_for_fact : (n : Pfn) → Says (IsDomain t n.0) Mild (domain_for t n)
   domain_for_fact n = by_eq (kind (view t) n.0) TDR (λ k. rw (domain_is_fact n k) (is (record { kind = k; is = refl })))
-      (λ k. unfold domain_for given choose in rw (ne_eqb (kind (view t) n.0) TDR k) (not (mild_no 2 0 (omega arith) (omega arith))))
+      (λ k. unfold domain_for given choose in rw (ne_eqb (kind (view t) n.0) TDR k) (not (mild_no Fault.Kind 0 (omega arith))))
 
   -- an entry that isn't FREE, on the way of d's tree, names a frame of d's with its type
   pub entry_own : (d b i : ℕ) → Keyed (view t) d → IsSpot t d b i → (((view t).entry b i).state ≡ FREE → ⊥)
@@ -101,10 +103,10 @@ module _ {base : Hpa} {t : Tables} {l : Lists} (st : State base t l) where
   unfolding entry_for given
   entry_for_fact d kd gpa level least most =
       on_walk_fact (ReachSays (IsEntry t d least most) Mild) (walk_good d kd gpa level top_level (root_block (extent t) (view t) d) (λ b p. p)) _ _ _
-      (λ j k. missed (mild_stop 6 j k (omega arith) (omega arith))) (λ z. absurd z)
+      (λ j k. not (mild_stop Fault.Walk j k (omega arith))) (λ z. absurd z)
       (λ b i sp. choose_both (ReachSays (IsEntry t d least most) Mild) _ _ _
-      (λ e. reached (record { spot = sp; entry = refl; state = between_true _ _ _ e }))
-      (λ _. missed (mild_stop 7 level _ (omega arith) (omega arith))))
+      (λ e. is (record { spot = sp; entry = refl; state = between_true _ _ _ e }))
+      (λ _. not (mild_stop Fault.State level _ (omega arith))))
 
   -- while a frame is free, a domain's count has room; who has a frame has a child
   pub count_room : (d F : ℕ) → kind (view t) d ≡ TDR → F < length t.frames → kind (view t) F ≡ NDA → ltb (record_of t d).children (length t.frames) ≡ true

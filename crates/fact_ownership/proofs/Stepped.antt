@@ -1,12 +1,13 @@
 -- An edit of one frame, one record, the stock and one entry: what it leaves of the view, once for every call. (A new kind of edit is a
 -- constructor more here.)
+use Rattle.std.specs.Prelude.{Some, None}
 use Rattle.base_rules.specs.Basics.{◌≡◌, Bool, true, false, ◌⊎◌, ℕ, ◌+◌, ◌<◌, eqb, choose}
 use Rattle.base_rules.proofs.Facts.{refl, sym, ap, ◌∙◌, false≢true, true≢false, inl, inr, arith, ne_eqb, choose_both, by_eq}
 use Rattle.base_units.specs.{Limits.control_pages, Limits.table_entries, declared.address.Pfn.Pfn}
 use Rattle.book_ledger.specs.Codes.{NDA, TDR, EPT, TEARDOWN}
 use Rattle.book_ledger.specs.declared.words.{Frame.Frame, Domain.Domain, Entry.Entry}
 use Rattle.call_plan.proofs.Parts.{edit}
-use Rattle.call_plan.specs.declared.edit.{FrameEdit.FrameEdit, PageEdit.PageEdit, DomainEdit.DomainEdit, StockEdit.StockEdit, EntryEdit.EntryEdit, Edit.Edit}
+use Rattle.call_plan.specs.declared.edit.{StockEdit.StockEdit, Edit.Edit}
 use Rattle.fact_keeps.specs.Views.{View, kind, number, listed, frame}
 use Rattle.fact_keeps.proofs.Stores.{stored, stored_at, stored_same, stored_other, cell_other, new_frame, new_domain, new_page, new_entry, new_use, wiped_domain}
 use Rattle.fact_keeps.proofs.Stores.{wiped_page, wiped_entry, After}
@@ -15,20 +16,21 @@ use Rattle.fact_ownership.proofs.{Domain.SameFrame, Domain.same_frame, Domain.sa
 use Rattle.fact_ownership.specs.Always.{Numbered, a_record, a_table, block_of, Holds, holds}
 use Rattle.fact_ownership.proofs.Sound.{Sound, Spare, Bare, not_bare, not_spare, unused_spare}
 use Rattle.fact_ownership.proofs.Shift.{Spot, same_spot, own_spot, spare_spot, Numbering, as_before, afresh}
+use Rattle.call_plan.specs.Edits.{FrameEdit, PageEdit, DomainEdit, EntryEdit, to_entry}
 
 -- ---- the parts: frame F becomes fr, record r becomes v, and the stock takes a block or gets F's back
 
 pub data FrameAt (s : View) (F : ℕ) : FrameEdit → Frame → Type 0 where
-  frame_stays : FrameAt s F (FrameEdit.Keep) (s.frame F)
-  frame_becomes : {v : Frame} → FrameAt s F (FrameEdit.Set (frame F) v) v
+  frame_stays : FrameAt s F None (s.frame F)
+  frame_becomes : {v : Frame} → FrameAt s F (Some (frame F, v)) v
 
 pub data PageAt (r : ℕ) : PageEdit → Type 0 where
-  page_stays : PageAt r (PageEdit.Keep)
-  page_becomes : {i : ℕ} {n : Pfn} → PageAt r (PageEdit.Set r i n)
+  page_stays : PageAt r None
+  page_becomes : {i : ℕ} {n : Pfn} → PageAt r (Some (r, i, n))
 
 pub data RecordAt (s : View) (r : ℕ) : DomainEdit → Domain → Type 0 where
-  record_stays : (d : ℕ) → kind s d ≡ TDR → number s d ≡ r → RecordAt s r (DomainEdit.Keep) (s.domain r)
-  record_becomes : {v : Domain} → RecordAt s r (DomainEdit.Set r v) v
+  record_stays : (d : ℕ) → kind s d ≡ TDR → number s d ≡ r → RecordAt s r None (s.domain r)
+  record_becomes : {v : Domain} → RecordAt s r (Some (r, v)) v
 
 -- F, which becomes fr: it has and gets neither record nor table, or keeps its own; it takes one that wasn't in use; or it gives its own
 pub data StockAt (z : Extent) (s : View) (F r : ℕ) (fr : Frame) : StockEdit → Type 0 where
@@ -41,8 +43,8 @@ pub data StockAt (z : Extent) (s : View) (F r : ℕ) (fr : Frame) : StockEdit �
 
 -- an entry of d's tree changes, or none
 pub data EntryAt (z : Extent) (s : View) (d : ℕ) : EntryEdit → Type 0 where
-  entry_stays : EntryAt z s d (EntryEdit.Keep)
-  entry_becomes : {b i : ℕ} {w : Entry} → kind s d ≡ TDR → Block z s d b → EntryAt z s d (EntryEdit.Set b i w)
+  entry_stays : EntryAt z s d None
+  entry_becomes : {b i : ℕ} {w : Entry} → kind s d ≡ TDR → Block z s d b → EntryAt z s d (to_entry b i w)
 
 module _ (s : View) (F : ℕ) where
   frame_new : {fe : FrameEdit} {fr : Frame} → FrameAt s F fe fr → new_frame fe s.frame F ≡ fr
@@ -230,7 +232,7 @@ stepped {s = s} {s'} {d = d} {F} {r} {fr = fr} a ok fa pa ra sa ea = record {
 
 -- an edit that leaves d's control pages
 pub counted : {z : Extent} {s s' : View} {d F : ℕ} {fe : FrameEdit} {de : DomainEdit} {se : StockEdit} {ee : EntryEdit} {fr : Frame} {v : Domain}
-    → Stepped z s s' d F (number s d) (edit fe (PageEdit.Keep) de se ee) fr v → kind s d ≡ TDR → v.listed ≡ listed s (number s d)
+    → Stepped z s s' d F (number s d) (edit fe None de se ee) fr v → kind s d ≡ TDR → v.listed ≡ listed s (number s d)
     → {n : ℕ} → v.children ≡ n → Counted s s' (number s d) n
 unfolding new_page
 counted {s = s} {d = d} p kd li ch = record { listed = cc; control = λ i. p.after.controls (number s d) i ∙ p.pages kd i; children = cc }

@@ -1,16 +1,15 @@
 -- Each edit that a plan makes is a shift of a domain's frames: once for each kind of edit, over the level, the entry's state and the stock.
 -- That an edit does to the tables what it says, and leaves them in range, is proved in the crate below, on any tables.
+use Rattle.std.specs.Prelude.{Some, None, Ok, Err}
 use Rattle.base_rules.specs.Basics.{◌≡◌, false, List, ℕ, ◌+◌, ◌-◌, ◌<◌, ◌≤◌, choose}
 use Rattle.base_rules.proofs.Facts.{refl, sym, ap, ◌∙◌, subst, arith, eq-eqb}
 use Rattle.base_units.specs.{Limits.table_entries, Limits.control_pages, declared.address.Hpa.Hpa}
 use Rattle.book_ledger.specs.{Codes.NDA, Codes.TDR, Codes.EPT, Codes.FREE, Codes.UNINITIALIZED, Codes.INITIALIZED, Codes.TEARDOWN, Tables.Tables}
 use Rattle.book_ledger.specs.declared.words.{Frame.Frame, Domain.Domain, Entry.Entry}
-use Rattle.base_calls.specs.{Answers.number_of, declared.Answer.Answer}
 use Rattle.call_plan.specs.{Changes.become, Edits.entry, Edits.freed, Edits.free_entry, Edits.new_tdr, Edits.new_tdcx, Edits.with_counts}
 use Rattle.call_plan.proofs.Parts.{edit}
 use Rattle.call_domains.specs.Domains.{fresh_domain}
-use Rattle.call_plan.specs.declared.edit.{FrameEdit.FrameEdit, PageEdit.PageEdit, DomainEdit.DomainEdit, StockEdit.StockEdit, EntryEdit.EntryEdit, Edit.Edit}
-use Rattle.call_plan.specs.declared.edit.{Plan.Plan, Plan.TheVariants.Say, Plan.TheVariants.Do}
+use Rattle.call_plan.specs.declared.edit.{StockEdit.StockEdit, Edit.Edit, Deed.TheVariants.Do, Deed.TheVariants.Tell}
 use Rattle.call_carry.specs.Carry.{applied}
 use Rattle.fact_keeps.specs.Views.{View, kind, owner, number, listed, children, frame, view}
 use Rattle.fact_keeps.proofs.Stores.{cell_at, cell_other, new_page, new_entry, wiped_page, wiped_entry, After}
@@ -24,6 +23,8 @@ use Rattle.fact_ownership.proofs.Facts.{Mild, fits_state, free_shape}
 use Rattle.fact_ownership.proofs.State.{State, record_of, looked, IsSpot, entry_own, count_some}
 use Rattle.fact_ownership.proofs.Stepped.{FrameAt, frame_stays, frame_becomes, page_stays, page_becomes, record_stays, record_becomes, StockAt}
 use Rattle.fact_ownership.proofs.Stepped.{stock_bare, stock_stays, record_taken_fact, block_given, entry_stays, entry_becomes, Stepped, stepped, counted}
+use Rattle.call_plan.specs.Edits.{FrameEdit, PageEdit, DomainEdit, Plan, to_entry}
+use Rattle.base_calls.specs.declared.{Refusal.Refusal, Reading.Reading}
 
 -- an edit on domain d's own record
 abbrev Edited : Tables → View → ℕ → ℕ → Edit → Frame → Domain → Type 0
@@ -40,17 +41,17 @@ done st sh o = record { shift = sh; tidy = tidied st.ok st.tidy sh o }
 
 -- a plan on domain d, from the lists l to l': a mild refusal, a read, or an edit
 pub data Turn (base : Hpa) (t : Tables) (l l' : Lists) (d : ℕ) : Plan → Type 0 where
-  says : {a : Answer} → Mild a → Turn base t l l' d (Say a)
-  reads : {a : Answer} → number_of a ≡ 0 → l' ≡ l → Turn base t l l' d (Say a)
+  says : {r : Refusal} → Mild r → Turn base t l l' d (Err r)
+  reads : {r : Reading} → l' ≡ l → Turn base t l l' d (Ok (Tell r))
   does : {e : Edit} {gone come : List Found} → (After (view t) (view (applied e t)) e → Does t (view (applied e t)) l l' d gone come)
-      → Turn base t l l' d (Do e)
+      → Turn base t l l' d (Ok (Do e))
 
 pub table_wiped : (g : ℕ → ℕ → Entry) (n j : ℕ) → (wiped_entry (StockEdit.Table n) g n j).state ≡ FREE
 unfolding wiped_entry choose
 table_wiped g n j = rw (eq-eqb n n refl) refl
 
 doing : {base : Hpa} {t : Tables} {l l' : Lists} {d : ℕ} {e : Edit} {gone : List Found} {come : View → List Found}
-    → ((s' : View) → After (view t) s' e → Does t s' l l' d gone (come s')) → Turn base t l l' d (Do e)
+    → ((s' : View) → After (view t) s' e → Does t s' l l' d gone (come s')) → Turn base t l l' d (Ok (Do e))
 doing {t = t} {e = e} f = does (f (view (applied e t)))
 
 -- the counts of d's record change, and nothing else of it
@@ -77,17 +78,17 @@ module _ {base : Hpa} {t : Tables} {l : Lists} (st : State base t l) where
 
   module _ {s' : View} {d F : ℕ} {fe : FrameEdit} {pe : PageEdit} {de : DomainEdit} {fr : Frame} {v : Domain} where
     -- those of a new root, of d's blocks where no entry is set, and where (b, i) is
-    new_wiped : {r bit n k : ℕ} → Stepped (extent t) (view t) s' d F r (edit fe pe de (StockEdit.Record bit n k) (EntryEdit.Keep)) fr v → (i : ℕ)
+    new_wiped : {r bit n k : ℕ} → Stepped (extent t) (view t) s' d F r (edit fe pe de (StockEdit.Record bit n k) None) fr v → (i : ℕ)
         → (s'.entry n i).state ≡ FREE
     unfolding new_entry wiped_entry choose
     new_wiped {n = n} p i = ap (λ (y : Entry). y.state) (p.after.entries n i) ∙ rw (eq-eqb n n refl) refl
 
-    all_stay : {se : StockEdit} → Edited t s' d F (edit fe pe de se (EntryEdit.Keep)) fr v → kind (view t) d ≡ TDR
+    all_stay : {se : StockEdit} → Edited t s' d F (edit fe pe de se None) fr v → kind (view t) d ≡ TDR
         → (c j : ℕ) → Block (extent t) (view t) d c → SameEntry (view t) s' c j
     unfolding new_entry
     all_stay p kd c j bl = same_entry (view t) s' c j (p.after.entries c j ∙ p.entries kd c j bl)
 
-    module _ {se : StockEdit} {b i : ℕ} {w : Entry} (p : Edited t s' d F (edit fe pe de se (EntryEdit.Set b i w)) fr v) where
+    module _ {se : StockEdit} {b i : ℕ} {w : Entry} (p : Edited t s' d F (edit fe pe de se (to_entry b i w)) fr v) where
       entry_now : s'.entry b i ≡ w
       unfolding new_entry
       entry_now = p.after.entries b i ∙ cell_at table_entries (wiped_entry se (view t).entry) b i w b i refl refl
@@ -122,7 +123,7 @@ module _ {base : Hpa} {t : Tables} {l : Lists} (st : State base t l) where
     pub entry_turn : (((view t).entry b i).state ≡ FREE → ⊥) → (state : ℕ) → shape_of state ≡ shape (view t) b i
         → (fe : FrameEdit) (fr : Frame) → FrameAt (view t) (points (view t) b i) fe fr → fr.kind ≡ kind (view t) (points (view t) b i)
         → fr.owner.0 ≡ owner (view t) (points (view t) b i) → fr.number ≡ number (view t) (points (view t) b i)
-        → Turn base t l l d (Do (edit fe (PageEdit.Keep) (DomainEdit.Keep) (StockEdit.Keep) (EntryEdit.Set b i (entry state (frame (points (view t) b i))))))
+        → Turn base t l l d (Ok (Do (edit fe None None (StockEdit.Keep) (to_entry b i (entry state (frame (points (view t) b i)))))))
     entry_turn was state alike fe fr fa kinds owners numbers = doing (λ s' a.
         let F : ℕ = points (view t) b i in
         let p : Edited t s' d F _ fr (record_of t d) =
@@ -144,8 +145,8 @@ module _ {base : Hpa} {t : Tables} {l : Lists} (st : State base t l) where
         → Fits (shape_of state) fr.kind
         → (se : StockEdit) → StockAt (extent t) (view t) F (number (view t) d) fr se
         → (fr.kind ≡ EPT → ((view t).used fr.number ≡ false) × ((j : ℕ) → (wiped_entry se (view t).entry fr.number j).state ≡ FREE))
-        → Turn base t l l d (Do (edit (FrameEdit.Set (frame F) fr) (PageEdit.Keep) (DomainEdit.Set (number (view t) d) (gained t d)) se
-        (EntryEdit.Set b i (entry state (frame F)))))
+        → Turn base t l l d (Ok (Do (edit (Some (frame F, fr)) None (Some (number (view t) d, gained t d)) se
+        (to_entry b i (entry state (frame F))))))
     put_turn was F free fr owned state fits se sa new = doing (λ s' a.
         let p : Edited t s' d F _ fr (gained t d) = stepped a st.ok frame_becomes page_stays record_becomes sa (entry_becomes kd.tdr own_block) in
         let sd = p.step.frames d (λ q. omega (arith, ap (kind (view t)) q, kd.tdr)) in
@@ -163,8 +164,8 @@ module _ {base : Hpa} {t : Tables} {l : Lists} (st : State base t l) where
 
     pub take_turn : (((view t).entry b i).state ≡ FREE → ⊥) → (se : StockEdit) → StockAt (extent t) (view t) (points (view t) b i) (number (view t) d) freed se
         → (kind (view t) (points (view t) b i) ≡ EPT → (j : ℕ) → j < table_entries → ((view t).entry (number (view t) (points (view t) b i)) j).state ≡ FREE)
-        → Turn base t l l d (Do (edit (FrameEdit.Set (frame (points (view t) b i)) freed) (PageEdit.Keep) (DomainEdit.Set (number (view t) d) (lost t d)) se
-        (EntryEdit.Set b i free_entry)))
+        → Turn base t l l d (Ok (Do (edit (Some (frame (points (view t) b i), freed)) None (Some (number (view t) d, lost t d)) se
+        (to_entry b i free_entry))))
     take_turn was se sa empty = doing (λ s' a.
         let F : ℕ = points (view t) b i in
         let p : Edited t s' d F _ freed (lost t d) = stepped a st.ok frame_becomes page_stays record_becomes sa (entry_becomes kd.tdr own_block) in
@@ -180,8 +181,7 @@ module _ {base : Hpa} {t : Tables} {l : Lists} (st : State base t l) where
   -- an entry that names a reclaimed frame stays as it is
   pub reclaim_turn : (d : ℕ) → kind (view t) d ≡ TDR → (record_of t d).life ≡ TEARDOWN → (F : ℕ) → Belongs (view t) d F → (se : StockEdit)
       → StockAt (extent t) (view t) F (number (view t) d) freed se
-      → Turn base t l (λ x. without F (l x)) d (Do (edit (FrameEdit.Set (frame F) freed) (PageEdit.Keep) (DomainEdit.Set (number (view t) d) (lost t d)) se
-      (EntryEdit.Keep)))
+      → Turn base t l (λ x. without F (l x)) d (Ok (Do (edit (Some (frame F, freed)) None (Some (number (view t) d, lost t d)) se None)))
   reclaim_turn d kd dead F mine se sa = doing (λ s' a.
       let p : Edited t s' d F _ freed (lost t d) = stepped a st.ok frame_becomes page_stays record_becomes sa entry_stays in
       let sd = p.step.frames d (λ q. omega (arith, ap (kind (view t)) q, kd, mine.type)) in
@@ -193,9 +193,8 @@ module _ {base : Hpa} {t : Tables} {l : Lists} (st : State base t l) where
   -- ---- a free frame becomes a control page and is listed (addcx)
 
   pub enlist_turn : (d : ℕ) → Keyed (view t) d → (record_of t d).listed < control_pages → (F : ℕ) → kind (view t) F ≡ NDA
-      → Turn base t l l d (Do (edit (FrameEdit.Set (frame F) (new_tdcx (frame d))) (PageEdit.Set (number (view t) d) (record_of t d).listed (frame F))
-      (DomainEdit.Set (number (view t) d) (with_counts (record_of t d) ((record_of t d).listed + 1) ((record_of t d).children + 1))) (StockEdit.Keep)
-      (EntryEdit.Keep)))
+      → Turn base t l l d (Ok (Do (edit (Some (frame F, new_tdcx (frame d))) (Some (number (view t) d, (record_of t d).listed, frame F))
+      (Some (number (view t) d, with_counts (record_of t d) ((record_of t d).listed + 1) ((record_of t d).children + 1))) (StockEdit.Keep) None)))
   unfolding new_page wiped_page
   enlist_turn d kd few F free = doing (λ s' a.
       let r : ℕ = number (view t) d in
@@ -215,8 +214,8 @@ module _ {base : Hpa} {t : Tables} {l : Lists} (st : State base t l) where
 
   pub new_turn : (F : ℕ) → kind (view t) F ≡ NDA → (key' r : ℕ) → (view t).used ((extent t).tables + r) ≡ false
       → ((e : ℕ) → Keyed (view t) e → (record_of t e).key ≡ key' → ⊥)
-      → Turn base t l l F (Do (edit (FrameEdit.Set (frame F) (new_tdr r)) (PageEdit.Keep) (DomainEdit.Set r (fresh_domain key'))
-      (StockEdit.Record ((extent t).tables + r) ((extent t).tables + r) r) (EntryEdit.Keep)))
+      → Turn base t l l F (Ok (Do (edit (Some (frame F, new_tdr r)) None (Some (r, fresh_domain key'))
+      (StockEdit.Record ((extent t).tables + r) ((extent t).tables + r) r) None)))
   new_turn F free key' r unused sole = doing (λ s' a.
       let v : Domain = fresh_domain key' in
       let p : Stepped (extent t) (view t) s' F F r _ (new_tdr r) v = stepped a st.ok frame_becomes page_stays record_becomes
@@ -233,8 +232,8 @@ module _ {base : Hpa} {t : Tables} {l : Lists} (st : State base t l) where
   -- ---- reclaim of a TDR: its record is given back
 
   pub retire_turn : (d : ℕ) → kind (view t) d ≡ TDR → (record_of t d).children ≡ 0
-      → Turn base t l (λ y. without d (l y)) d (Do (edit (FrameEdit.Set (frame d) freed) (PageEdit.Keep) (DomainEdit.Keep)
-      (StockEdit.Give (root_block (extent t) (view t) d)) (EntryEdit.Keep)))
+      → Turn base t l (λ y. without d (l y)) d (Ok (Do (edit (Some (frame d, freed)) None None
+      (StockEdit.Give (root_block (extent t) (view t) d)) None)))
   retire_turn d kd bare = doing (λ s' a.
       let p : Edited t s' d d _ freed (record_of t d) =
       stepped a st.ok frame_becomes page_stays (record_stays d kd refl) (block_given a_record kd (omega arith)) entry_stays in

@@ -1,13 +1,11 @@
 -- The states that calls reach from a fresh start, and document 01's third demand of them.
-use Rattle.base_rules.specs.Basics.{choose}
-use Rattle.std.specs.Prelude.{Float, ℕ, ◌≡◌, true, List, [], eqb, length}
+use Rattle.base_rules.specs.Basics.{choose, on_option}
+use Rattle.std.specs.Prelude.{Float, ℕ, ◌≡◌, true, List, [], eqb, length, Option, Some, None}
 use Rattle.base_levels.specs.Level.{levels}
-use Rattle.base_units.specs.Limits.{table_entries}
-use Rattle.base_units.specs.declared.address.{Hpa.Hpa, Place.Place, Place.TheVariants.At, Place.TheVariants.Outside}
+use Rattle.base_units.specs.{Limits.table_entries, declared.address.Hpa.Hpa, declared.address.Pfn.Pfn}
 use Rattle.book_gauge.specs.{Marks.marks_ok, declared.Gauge.Gauge}
 use Rattle.book_ledger.specs.{Codes.NDA, Codes.TDR, Codes.TEARDOWN, Sizes.tables_of, Tables.Tables}
 use Rattle.base_calls.specs.{Answers.number_of, declared.Call.Call}
-use Rattle.call_plan.specs.Lookup.{on_place}
 use Rattle.call_host.specs.Calls.{Outcome, call_of, reset_of, marks_of}
 use Rattle.fact_ownership.specs.Owned.{Extent, Found, found, finds, times, Owns, Keyed, without, Belongs, Untouched, WrittenBack}
 use Rattle.fact_keeps.specs.Views.{kind, owner, number, life, frame, view, place_in}
@@ -51,12 +49,12 @@ role_of (Call.ReadEntry d gpa level) = on d
 role_of (Call.CacheWb) = each
 
 -- "on one domain": its TDR's frame. A reclaim of a TDR is on that domain, and of another frame on its owner
-unfoldable pub subject : Hpa → Tables → Role → Place
+unfoldable pub subject : Hpa → Tables → Role → Option Pfn
 subject base t (on d) = place_in base t d
 subject base t (frees d) = place_in base t d
-subject base t (reclaims f) = on_place (place_in base t f) Outside λ n.
-    At (frame (choose (eqb (kind (view t) n.0) TDR) n.0 (owner (view t) n.0)))
-subject base t each = Outside
+subject base t (reclaims f) = on_option (place_in base t f) None λ n.
+    Some (frame (choose (eqb (kind (view t) n.0) TDR) n.0 (owner (view t) n.0)))
+subject base t each = None
 
 -- "those it had at that moment less those reclaimed since": a list for each domain. An accepted keyfree notes what the domain has, and an
 -- accepted reclaim strikes its frame out
@@ -68,8 +66,8 @@ noted l d now e = choose (eqb e d) now (l e)
 
 unfoldable pub left : Hpa → Tables → Role → Lists → Lists
 left base t (on d) l = l
-left base t (frees d) l = on_place (place_in base t d) l λ n. noted l n.0 (found_in t n.0)
-left base t (reclaims f) l = on_place (place_in base t f) l λ n e. without n.0 (l e)
+left base t (frees d) l = on_option (place_in base t d) l λ n. noted l n.0 (found_in t n.0)
+left base t (reclaims f) l = on_option (place_in base t f) l λ n e. without n.0 (l e)
 left base t each l = l
 
 -- ---- "After any calls from a fresh start"
@@ -97,7 +95,7 @@ pub record Demand3 (base : Hpa) (t : Tables) (l : Lists) : Type 0 where
   pub freed : (d : ℕ) → kind (view t) d ≡ TDR → life (view t) (number (view t) d) ≡ TEARDOWN → Owns (view t) d (l d)
   -- an accepted call on one domain leaves every other domain's record, control pages, frames and tree alone ..
   pub alone : (g : Gauge) (c : Call) → (c ≡ Call.CacheWb → ⊥) → Accepted (call_of base t g c) → (e : ℕ) → kind (view t) e ≡ TDR
-      → (subject base t (role_of c) ≡ At (frame e) → ⊥)
+      → (subject base t (role_of c) ≡ Some (frame e) → ⊥)
       → Untouched (extent t) (view t) (view (call_of base t g c).tables) e
   -- .. "cachewb is the one call that may touch several domains' records; the third demand's last sentence excepts it": it leaves all of every
   -- domain alone but the lifecycle, which moves from blocked to blocked and written back, and from nothing else

@@ -1,9 +1,9 @@
 -- Document 01, "The script": the line of each call that the whole run leaves out, its operands numbered by their place, and what it is read as. Request 5's
 -- is the name alone.
-use Rattle.std.specs.Prelude.{◌≡◌, List, [], ◌∷◌}
+use Rattle.std.specs.Prelude.{◌≡◌, List, [], ◌∷◌, Some}
 use Prim.Native.String.{String}
 use Rattle.base_calls.specs.declared.Call.{Call}
-use Rattle.door_script.specs.{Text.bytes, Lines.line_of, declared.line.Line.Line}
+use Rattle.door_script.specs.{Text.bytes, Lines.line_of}
 use Rattle.fact_cases.specs.Cases.{hpa, gpa}
 
 pub record Spelt : Type 0 where
@@ -15,7 +15,7 @@ spelt t c = record { text = t; call = c }
 
 unfoldable pub AllRead : List Spelt → Type 0
 AllRead [] = Unit
-AllRead (s ∷ ss) = (line_of (bytes s.text) ≡ Line.Call s.call) × AllRead ss
+AllRead (s ∷ ss) = (line_of (bytes s.text) ≡ Some s.call) × AllRead ss
 
 unfoldable pub lines : List Spelt
 lines =

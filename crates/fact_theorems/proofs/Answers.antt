@@ -1,15 +1,14 @@
 -- Each number is given exactly when its check fails and no check before it does, and the checks stand in the paper's order.
+use Rattle.std.specs.Prelude.{Ok, Err}
 use Rattle.base_rules.specs.Basics.{◌≡◌, Bool, true, false, List, [], ◌∷◌, ◌⊎◌, ℕ, ◌+◌, ◌-◌, eqb, ltb, choose, given}
-use Rattle.base_rules.proofs.Facts.{refl, inl, inr, arith, eqb-true, eqb-false, ne_eqb, lt-ltb, le-ltb, choose_both}
+use Rattle.base_rules.proofs.Facts.{refl, ◌∙◌, inl, inr, arith, eqb-true, eqb-false, ne_eqb, lt-ltb, le-ltb, choose_both}
 use Rattle.base_units.specs.{Limits.between, declared.address.Hpa.Hpa}
 use Rattle.book_gauge.specs.declared.Gauge.{Gauge}
 use Rattle.book_range.specs.Range.{lent_ok}
-use Rattle.base_calls.specs.Answers.{values_of, number_of}
-use Rattle.base_calls.specs.declared.{Answer.Answer, Ask.Ask, Answer.TheVariants.No, Call.Call}
-use Rattle.call_plan.specs.declared.edit.Plan.{Plan, TheVariants.Say, TheVariants.Do, TheVariants.Each}
+use Rattle.base_calls.specs.{Answers.values_of, Answers.number_of, declared.Ask.Ask, declared.Call.Call, declared.Refusal.TheVariants.No}
 use Rattle.call_carry.specs.Carry.{carried}
 use Rattle.book_ledger.specs.Codes.{NDA, TDR, TDCX, NL_MAPPED, MAPPED, PENDING, NL_BLOCKED, BLOCKED, PENDING_BLOCKED}
-use Rattle.book_ledger.specs.{Tables.Tables}
+use Rattle.book_ledger.specs.Tables.{Tables}
 use Rattle.call_plan.specs.{Changes.gain, Changes.lose, Entries.blocked_state, Entries.unblocked_state}
 use Rattle.call_domains.specs.Domains.{life_plan, op_plan, track_plan, enlist_at, addcx_plan, new_record, create_at, create_plan}
 use Rattle.call_adds.specs.Adds.{free_for, add_table_at, add_page_at, septadd_plan, page_plan}
@@ -23,11 +22,14 @@ use Rattle.fact_keeps.specs.Views.{View, view}
 use Rattle.fact_keeps.proofs.Stores.{new_frame, new_domain, new_page, new_entry, new_use, wiped_domain, wiped_page, wiped_entry}
 use Rattle.fact_keeps.proofs.Ranged.{between_true}
 use Rattle.fact_theorems.specs.Effects.{effect_of, owner_of, leads_to, accepted_of}
-use Rattle.fact_theorems.specs.Order.{Reason, tables, marks, operand, emptied, frame, unreadable, number, Check, check, first_no, in_order, Fails, here}
+use Rattle.fact_theorems.specs.Order.{Reason, tables, marks, operand, emptied, frame, unreadable, fault_of, Check, check, first_no, in_order, Fails, here}
 use Rattle.fact_theorems.specs.Order.{later, Passes, none, one}
-use Rattle.fact_theorems.proofs.Firsts.{number_p, row, Tells, TellsP, Numbers, no, window_first, none_besides, frame_besides, parties_first, built_first}
+use Rattle.fact_theorems.proofs.Firsts.{number_p, number_is, row, Tells, TellsP, Numbers, no, window_first, none_besides, frame_besides, parties_first, built_first}
 use Rattle.fact_theorems.proofs.Firsts.{spot_first, owner_first, offered_first, reach_first, tracked_first, walk_first, stock_first, child_first}
 use Rattle.fact_theorems.proofs.Firsts.{needed, unless, either, done, swept, read}
+use Rattle.call_plan.specs.{Edits.Plan, declared.edit.Deed.TheVariants.Do, declared.edit.Deed.TheVariants.Each, declared.edit.Deed.TheVariants.Tell}
+use Rattle.base_calls.specs.declared.{Fault.Fault, Reading.Reading}
+use Rattle.fact_ownership.proofs.Facts.{reads_none}
 
 -- by whether two numbers are equal
 pub choose_eq : {A : Type 0} (P : A → Type 0) (a b : ℕ) {x y : A} → (a ≡ b → P x) → ((a ≡ b → ⊥) → P y) → P (choose (eqb a b) x y)
@@ -48,19 +50,21 @@ unblocked_code s h =
 
 -- types 0 and 1 have no owner, the others do; a FREE entry leads nowhere
 page_said : (k : ℕ) (nil o : Hpa) {t : Tables}
-    → Numbers (row true t (view t) (Answer.Page k (choose (eqb k NDA) nil (choose (eqb k TDR) nil o))))
-    (choose (ltb k TDCX) (Say (Answer.Page k nil)) (Say (Answer.Page k o))) []
+    → Numbers (row true t (view t) (Reading.Page k (choose (eqb k NDA) nil (choose (eqb k TDR) nil o))))
+    (choose (ltb k TDCX) (Ok (Tell (Reading.Page k nil))) (Ok (Tell (Reading.Page k o)))) []
 unfolding choose values_of Tells
 page_said k nil o {t} =
-    let P : Hpa → Type 0 = λ h. Numbers (row true t (view t) (Answer.Page k h)) (choose (ltb k TDCX) (Say (Answer.Page k nil)) (Say (Answer.Page k o))) [] in
-    choose_eq P k NDA (λ e. rw (lt-ltb k TDCX (omega arith)) (read _ refl refl)) λ n.
-    choose_eq P k TDR (λ e. rw (lt-ltb k TDCX (omega arith)) (read _ refl refl)) λ m. rw (le-ltb k TDCX (omega arith)) (read _ refl refl)
+    let plan : Plan = choose (ltb k TDCX) (Ok (Tell (Reading.Page k nil))) (Ok (Tell (Reading.Page k o))) in
+    let P : Hpa → Type 0 = λ h. Numbers (row true t (view t) (Reading.Page k h)) plan [] in
+    choose_eq P k NDA (λ e. rw (lt-ltb k TDCX (omega arith)) (read _ refl)) λ n.
+    choose_eq P k TDR (λ e. rw (lt-ltb k TDCX (omega arith)) (read _ refl)) λ m. rw (le-ltb k TDCX (omega arith)) (read _ refl)
 
 entry_said : (level state : ℕ) (b : Bool) (h k : Hpa) {t : Tables}
-    → Numbers (row true t (view t) (Answer.Entry level state (choose b h k))) (choose b (Say (Answer.Entry level state h)) (Say (Answer.Entry level state k))) []
+    → Numbers (row true t (view t) (Reading.Entry level state (choose b h k)))
+    (choose b (Ok (Tell (Reading.Entry level state h))) (Ok (Tell (Reading.Entry level state k)))) []
 unfolding choose values_of Tells
-entry_said level state true h k = read _ refl refl
-entry_said level state false h k = read _ refl refl
+entry_said level state true h k = read _ refl
+entry_said level state false h k = read _ refl
 
 -- a call's plan answers with the number of its first check that fails, and where it accepts it does and answers as its row says
 pub plan_first : (base : Hpa) (t : Tables) (c : Call) → Numbers (row (reads c) t (effect_of base t c) (accepted_of base t c)) (plan_of base t c)
@@ -109,21 +113,22 @@ pub record Settles (t : Tables) (g : Gauge) (reads : Bool) (o : Outcome) (cs : L
   pub tells : Tells reads o.answer
 
 module _ {t : Tables} {g : Gauge} {r : Bool} where
-  accepts : (t' : Tables) (g' : Gauge) → Settles t g r (outcome (Answer.Done) t' g') []
+  accepts : (t' : Tables) (g' : Gauge) → Settles t g r (outcome (Ok Reading.Done) t' g') []
   unfolding first_no values_of Tells
   accepts t' g' = record { is = refl; same = record { kept = λ n. absurd (n refl) }; tells = tt }
 
   else_no : {o : Outcome} {cs : List Check} (w : Reason) (b : Bool) → Settles t g r o cs
-      → Settles t g r (choose b o (outcome (No (number w) 0) t g)) (check w b ∷ cs)
+      → Settles t g r (choose b o (outcome (Err (No (fault_of w) 0)) t g)) (check w b ∷ cs)
   unfolding first_no choose values_of Tells
   else_no w true e = record { is = e.is; same = e.same; tells = e.tells }
-  else_no w false e = record { is = refl; same = record { kept = λ _. (refl, refl) }; tells = tt }
+  else_no w false e = record { is = number_is w; same = record { kept = λ _. (refl, refl) }; tells = tt }
 
-  by_plan : {s : Tables} {v : View} {a : Answer} {cs : List Check} (p : Plan) → Numbers (row r s v a) p cs → Settles t g r (settled g (carried t p)) cs
+  by_plan : {s : Tables} {v : View} {a : Reading} {cs : List Check} (p : Plan) → Numbers (row r s v a) p cs → Settles t g r (settled g (carried t p)) cs
   unfolding number_p TellsP Tells settled carried gauge_after given choose values_of
-  by_plan (Say a) e = record { is = e.is; same = record { kept = λ n. (refl, rw (ne_eqb (number_of a) 0 n)) }; tells = e.tells }
-  by_plan (Do d) e = record { is = e.is; same = record { kept = λ n. absurd (n refl) }; tells = tt }
-  by_plan (Each w) e = record { is = e.is; same = record { kept = λ n. absurd (n refl) }; tells = tt }
+  by_plan (Err a) e = record { is = e.is; same = record { kept = λ n. (refl, rw (ne_eqb (number_of (Err a)) 0 n)) }; tells = e.tells }
+  by_plan (Ok (Tell a)) e = record { is = reads_none a ∙ e.is; same = record { kept = λ n. absurd (n (reads_none a)) }; tells = e.tells }
+  by_plan (Ok (Do d)) e = record { is = e.is; same = record { kept = λ n. absurd (n refl) }; tells = tt }
+  by_plan (Ok (Each w)) e = record { is = e.is; same = record { kept = λ n. absurd (n refl) }; tells = tt }
 
 pub settles : (base : Hpa) (t : Tables) (g : Gauge) (a : Ask) → Settles t g (reads_out a) (ask_of base t g a) (ask_checks base t g a)
 unfolding ask_of ask_checks reads_out call_of rule_of marks_of reset_of given choose
@@ -139,7 +144,7 @@ answered base t g c = (settles base t g (Ask.Host c)).is
 
 -- a call is refused with 13, or its rule has its way
 pub by_call : (P : Outcome → Type 0) (base : Hpa) (t : Tables) (g : Gauge) (c : Call) → (lent_ok base t ≡ true → P (rule_of base t g c))
-    → P (outcome (No 13 0) t g) → P (call_of base t g c)
+    → P (outcome (Err (No Fault.Range 0)) t g) → P (call_of base t g c)
 unfolding call_of
 by_call P base t g c f z = choose_both P _ _ _ (λ ok. choose_both P _ _ _ (λ _. f ok) λ _. z) λ _. z
 

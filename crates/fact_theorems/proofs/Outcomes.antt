@@ -1,15 +1,17 @@
 -- What every outcome has in common: it is the only one, a refusal changes nothing, and zeros are read out but where the paper says otherwise.
+use Rattle.std.specs.Prelude.{Ok, Err}
 use Rattle.base_rules.specs.Basics.{◌≡◌, Bool, false}
 use Rattle.base_rules.proofs.Facts.{refl, sym, ◌∙◌, true≢false, inl, inr}
 use lib.Ieee.{Float}
 use Rattle.base_units.specs.declared.address.Hpa.{Hpa}
 use Rattle.book_gauge.specs.declared.Gauge.{Gauge}
 use Rattle.book_ledger.specs.Tables.{Tables}
-use Rattle.base_calls.specs.{Answers.values_of, Answers.number_of, declared.Answer.Answer, declared.Call.Call, declared.Ask.Ask}
+use Rattle.base_calls.specs.{Answers.values_of, Answers.number_of, declared.Call.Call, declared.Ask.Ask}
 use Rattle.door_asks.specs.Asks.{ask_of}
 use Rattle.fact_theorems.specs.{Doors.reads_out, Checks.reads}
 use Rattle.call_host.specs.Calls.{call_of, reset_of, marks_of}
 use Rattle.fact_theorems.proofs.{Firsts.Tells, Answers.Kept, Answers.settles}
+use Rattle.base_calls.specs.{Answers.Answer, declared.Reading.Reading, declared.Refusal.TheVariants.No, declared.Refusal.TheVariants.Stop}
 
 pub call_kept : (base : Hpa) (t : Tables) (g : Gauge) (c : Call) → Kept t g (call_of base t g c)
 unfolding ask_of
@@ -29,12 +31,12 @@ Zeros a = values_of a ≡ record { number = number_of a; kind = 0; owner = recor
 
 pub by_tells : (r : Bool) (a : Answer) → Tells r a → (number_of a ≡ 6 → ⊥) → (number_of a ≡ 7 → ⊥) → (number_of a ≡ 0 → r ≡ false) → Zeros a
 unfolding Tells Zeros values_of
-by_tells r (Answer.Done) h p q z = refl
-by_tells r (Answer.No n k) h p q z = refl
-by_tells r (Answer.Stop n l s) (inl h) p q z = absurd (p h)
-by_tells r (Answer.Stop n l s) (inr h) p q z = absurd (q h)
-by_tells r (Answer.Page k o) h p q z = absurd (true≢false (sym h ∙ z refl))
-by_tells r (Answer.Entry l s o) h p q z = absurd (true≢false (sym h ∙ z refl))
+by_tells r (Ok Reading.Done) h p q z = refl
+by_tells r (Ok (Reading.Page k o)) h p q z = absurd (true≢false (sym h ∙ z refl))
+by_tells r (Ok (Reading.Entry l s o)) h p q z = absurd (true≢false (sym h ∙ z refl))
+by_tells r (Err (No w k)) h p q z = refl
+by_tells r (Err (Stop w l s)) (inl h) p q z = absurd (p h)
+by_tells r (Err (Stop w l s)) (inr h) p q z = absurd (q h)
 
 pub zeros : (base : Hpa) (t : Tables) (g : Gauge) (c : Call)
     → (number_of (call_of base t g c).answer ≡ 6 → ⊥)

@@ -1,19 +1,19 @@
 -- For each row of "The calls", its "Needs" as a list of checks in the paper's order. A reader ticks them off against the table; the
 -- theorem `answered` (proofs/Answers) says that a call's number is that of the first check that fails.
-use Rattle.std.specs.Prelude.{ℕ, Bool, true, false, not, List, [], ◌∷◌, length, eqb, ltb}
-use Rattle.base_rules.specs.Basics.{choose}
+use Rattle.std.specs.Prelude.{ℕ, Bool, true, false, not, List, [], ◌∷◌, length, eqb, ltb, Option}
+use Rattle.base_rules.specs.Basics.{choose, on_option}
 use Rattle.base_units.specs.{Limits.between, Limits.control_pages, Limits.epoch_most, Limits.key_ok, Address.frame_of}
 use Rattle.base_levels.specs.Level.{top_level, level_ok, gpa_fits}
 use Rattle.base_units.specs.declared.address.{Hpa.Hpa, Gpa.Gpa, Pfn.Pfn}
 use Rattle.book_gauge.specs.{Marks.marks_ok, declared.Gauge.Gauge}
-use Rattle.book_stock.specs.{Bits.in_use, Bits.lowest_unused, Bits.on_lowest, declared.bits.Lowest.Lowest}
+use Rattle.book_stock.specs.Bits.{in_use, lowest_unused}
 use Rattle.book_ledger.specs.Codes.{NDA, TDR, EPT, FREE, NL_MAPPED, PENDING, NL_BLOCKED, BLOCKED, PENDING_BLOCKED, ASSIGNED, CONFIGURED, WRITTEN_BACK}
 use Rattle.book_ledger.specs.{Codes.TEARDOWN, Codes.UNINITIALIZED, Codes.INITIALIZED, Codes.RUNNABLE, Sizes.tables_of, Sizes.bits_of}
 use Rattle.book_range.specs.Range.{lent_ok}
 use Rattle.book_ledger.specs.{Tables.Tables, Tables.frame_at, Tables.domain_at, Tables.entry_at, declared.words.Entry.Entry}
-use Rattle.book_walk.specs.{Walk.own_frame, Walk.on_walk, declared.Walk.Walk}
+use Rattle.book_walk.specs.Walk.{own_frame, on_walk, Walk}
 use Rattle.base_calls.specs.declared.Call.{Call}
-use Rattle.call_plan.specs.{Lookup.on_place, Lookup.is_nda, Lookup.bit_in, Lookup.root_in, Entries.walk_of, Entries.is_tracked, Entries.table_empty}
+use Rattle.call_plan.specs.{Lookup.is_nda, Lookup.bit_in, Lookup.root_in, Entries.walk_of, Entries.is_tracked, Entries.table_empty}
 use Rattle.call_domains.specs.Domains.{key_unused}
 use Rattle.call_plan.specs.declared.lookup.Subject.{Subject}
 use Rattle.fact_theorems.specs.Order.{Reason, tables, marks, operand, domain, record', lifecycle, pages, op_state, offered, key, stopped, foreign, entry}
@@ -22,10 +22,10 @@ use Rattle.fact_theorems.specs.Order.{untracked, emptied, remain, stock, epoch, 
 -- ---- the words of the table
 -- an hpa is one of the window's, and the frame that it then names
 unfoldable pub in_window : Hpa → ℕ → Hpa → Bool
-in_window base frames hpa = on_place (frame_of base frames hpa) false λ n. true
+in_window base frames hpa = on_option (frame_of base frames hpa) false λ n. true
 
 unfoldable pub named : Hpa → ℕ → Hpa → Pfn
-named base frames hpa = on_place (frame_of base frames hpa) (record { 0 = 0 }) λ n. n
+named base frames hpa = on_option (frame_of base frames hpa) (record { 0 = 0 }) λ n. n
 
 -- the domain that the TDR n names
 abbrev pub record_of : Tables → Pfn → Subject
@@ -42,11 +42,11 @@ abbrev pub kind_is : Tables → Pfn → ℕ → Bool
 kind_is t n k = eqb (frame_at t.frames n).kind k
 
 -- whether a look through the stock found a bit, and which
-abbrev pub has_one : Lowest → Bool
-has_one l = on_lowest l false λ b. true
+abbrev pub has_one : Option ℕ → Bool
+has_one l = on_option l false λ b. true
 
-unfoldable pub the_one : Lowest → ℕ
-the_one l = on_lowest l 0 λ b. b
+unfoldable pub the_one : Option ℕ → ℕ
+the_one l = on_option l 0 λ b. b
 
 -- how a walk ended, and the entry that it arrived at
 unfoldable pub goes_on : Walk → Bool

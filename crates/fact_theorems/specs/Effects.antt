@@ -9,11 +9,11 @@ use Rattle.book_stock.specs.Bits.{lowest_unused}
 use Rattle.book_ledger.specs.Codes.{NDA, TDR, TDCX, EPT, REG, FREE, NL_MAPPED, MAPPED, PENDING, ASSIGNED, CONFIGURED, BLOCKED_LIFE, TEARDOWN, WRITTEN_BACK}
 use Rattle.book_ledger.specs.{Codes.UNINITIALIZED, Codes.INITIALIZED, Codes.RUNNABLE, Tables.Tables, Tables.frame_at}
 use Rattle.book_ledger.specs.declared.words.{Frame.Frame, Domain.Domain, Entry.Entry}
-use Rattle.book_walk.specs.declared.Walk.{Walk}
-use Rattle.base_calls.specs.declared.{Answer.Answer, Call.Call}
+use Rattle.base_calls.specs.declared.{Call.Call, Reading.Reading}
 use Rattle.call_plan.specs.{Lookup.bit_in, Lookup.root_in, Entries.walk_of, declared.lookup.Subject.Subject}
 use Rattle.fact_keeps.specs.Views.{View, view}
 use Rattle.fact_theorems.specs.Checks.{record_of, kind_is, window, first_bit, end_bit, arrived, block, index, the_one}
+use Rattle.book_walk.specs.Walk.{Walk}
 
 -- ---- a place that becomes something; the others are as they were
 
@@ -221,7 +221,7 @@ module _ (base : Hpa) (t : Tables) where
   -- "every domain in blocked becomes blocked and written back"
   effect_of (Call.CacheWb) = records_to writes_back (view t)
 
-  -- ---- the answer of an accepted call: the two that read say what they read
+  -- ---- what an accepted call reads out: the two that read say what they read
   abbrev nowhere : Hpa
   nowhere = record { 0 = 0 }
 
@@ -233,23 +233,23 @@ module _ (base : Hpa) (t : Tables) where
   unfoldable pub leads_to : Entry → Hpa
   leads_to e = choose (eqb e.state FREE) nowhere (hpa_of base e.frame)
 
-  unfoldable pub accepted_of : Call → Answer
-  accepted_of (Call.Create f key) = Answer.Done
-  accepted_of (Call.KeyConfig d) = Answer.Done
-  accepted_of (Call.AddCx d f) = Answer.Done
-  accepted_of (Call.Init d) = Answer.Done
-  accepted_of (Call.SeptAdd d gpa level f) = Answer.Done
-  accepted_of (Call.PageAdd d gpa f) = Answer.Done
-  accepted_of (Call.Finalize d) = Answer.Done
-  accepted_of (Call.PageAug d gpa f) = Answer.Done
-  accepted_of (Call.Block d gpa level) = Answer.Done
-  accepted_of (Call.Track d) = Answer.Done
-  accepted_of (Call.Unblock d gpa level) = Answer.Done
-  accepted_of (Call.PageRemove d gpa) = Answer.Done
-  accepted_of (Call.SeptRemove d gpa level) = Answer.Done
-  accepted_of (Call.FlushDone d) = Answer.Done
-  accepted_of (Call.KeyFree d) = Answer.Done
-  accepted_of (Call.Reclaim f) = Answer.Done
-  accepted_of (Call.ReadPage f) = Answer.Page (frame_at t.frames (window base t f)).kind (owner_of (frame_at t.frames (window base t f)))
-  accepted_of (Call.CacheWb) = Answer.Done
-  accepted_of (Call.ReadEntry d gpa level) = Answer.Entry level (arrived t (walk d gpa level)).state (leads_to (arrived t (walk d gpa level)))
+  unfoldable pub accepted_of : Call → Reading
+  accepted_of (Call.Create f key) = Reading.Done
+  accepted_of (Call.KeyConfig d) = Reading.Done
+  accepted_of (Call.AddCx d f) = Reading.Done
+  accepted_of (Call.Init d) = Reading.Done
+  accepted_of (Call.SeptAdd d gpa level f) = Reading.Done
+  accepted_of (Call.PageAdd d gpa f) = Reading.Done
+  accepted_of (Call.Finalize d) = Reading.Done
+  accepted_of (Call.PageAug d gpa f) = Reading.Done
+  accepted_of (Call.Block d gpa level) = Reading.Done
+  accepted_of (Call.Track d) = Reading.Done
+  accepted_of (Call.Unblock d gpa level) = Reading.Done
+  accepted_of (Call.PageRemove d gpa) = Reading.Done
+  accepted_of (Call.SeptRemove d gpa level) = Reading.Done
+  accepted_of (Call.FlushDone d) = Reading.Done
+  accepted_of (Call.KeyFree d) = Reading.Done
+  accepted_of (Call.Reclaim f) = Reading.Done
+  accepted_of (Call.ReadPage f) = Reading.Page (frame_at t.frames (window base t f)).kind (owner_of (frame_at t.frames (window base t f)))
+  accepted_of (Call.CacheWb) = Reading.Done
+  accepted_of (Call.ReadEntry d gpa level) = Reading.Entry level (arrived t (walk d gpa level)).state (leads_to (arrived t (walk d gpa level)))

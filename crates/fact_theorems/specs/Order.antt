@@ -1,6 +1,7 @@
--- Document 01, "When the module says no" and its paragraph "Order": each reason to refuse, its number, and its place in the order.
+-- Document 01, "When the module says no" and its paragraph "Order": each reason to refuse, the fault that it is, its number, and its place in the order.
 use Rattle.std.specs.Prelude.{ℕ, Bool, true, false, List, [], ◌∷◌, ◌≡◌, leb}
 use Rattle.base_rules.specs.Basics.{choose}
+use Rattle.base_calls.specs.declared.Fault.{Fault}
 
 pub data Reason : Type 0 where
   -- 13: lent sizes, base or a stored number; a lent gauge's marks
@@ -37,6 +38,31 @@ pub data Reason : Type 0 where
   -- 15: a request's number that names no call
   unreadable : Reason
 
+-- what the code says is wrong ..
+abbrev pub fault_of : Reason → Fault
+fault_of tables = Fault.Range
+fault_of marks = Fault.Range
+fault_of operand = Fault.Operand
+fault_of domain = Fault.Kind
+fault_of record' = Fault.Link
+fault_of lifecycle = Fault.Life
+fault_of pages = Fault.Pages
+fault_of op_state = Fault.OpState
+fault_of offered = Fault.Kind
+fault_of key = Fault.Key
+fault_of stopped = Fault.Walk
+fault_of foreign = Fault.Link
+fault_of entry = Fault.State
+fault_of untracked = Fault.Untracked
+fault_of emptied = Fault.Link
+fault_of remain = Fault.Remains
+fault_of stock = Fault.Stock
+fault_of epoch = Fault.Epoch
+fault_of frame = Fault.Link
+fault_of count = Fault.Link
+fault_of unreadable = Fault.Unreadable
+
+-- .. and the paper's number, read from the paper once more
 abbrev pub number : Reason → ℕ
 number tables = 13
 number marks = 13

@@ -2,8 +2,8 @@
 use Rattle.base_rules.specs.Basics.{◌≡◌, given}
 use Rattle.base_units.specs.declared.address.Hpa.{Hpa}
 use Rattle.book_ledger.specs.Tables.{Tables}
-use Rattle.base_calls.specs.Answers.{values_of}
-use Rattle.base_calls.specs.declared.{Answer.Answer, Ask.Ask, Values.Values}
+use Rattle.base_calls.specs.Answers.{values_of, Answer}
+use Rattle.base_calls.specs.declared.{Ask.Ask, Values.Values}
 use Rattle.call_run.specs.{Runs.next, Runs.next_of, declared.Run.Run}
 use Rattle.door_requests.specs.{Requests.ask_for, declared.Request.Request}
 use Rattle.reefnettle.specs.Door.{told, next_door}

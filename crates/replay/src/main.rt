@@ -2,10 +2,13 @@
 // stand here: what a byte does and what a line answers is proved in the crates feed and session.
 #![tactic(auto)]
 
+ghost use Rattle.std.specs.Prelude.{◌≤◌};
+
 use base_calls::Ask;
 use base_units::address::Hpa;
 use book_gauge::Gauge;
 use book_ledger::count;
+use book_ledger::tables::LentMut;
 use door_feed::{Feed, Turn};
 use std::io::Read;
 
@@ -13,18 +16,31 @@ const BASE_BYTES: u64 = 1073741824;
 
 const FRAMES: u64 = 1024;
 
+const OUT_BYTES: usize = 4096;
+
 // Room for an answer: its line takes at most bytes 118, the line's number having 5 digits at most and any other 20.
 const ANSWER_BYTES: usize = 128;
 
-// Where the replay stands: the gauge, the script so far, the bytes of output not yet written, whether the reading is over (at the
-// input's end, at line 10001, or given up), and whether it was given up: then no line more is run and nothing more is written.
-#[derive(Clone, Copy)]
-pub struct State {
-    pub gauge: Gauge,
-    pub feed: Feed,
-    pub pending: usize,
-    pub stopped: bool,
-    pub given_up: bool,
+// How far the replay is: it reads on; the reading is over, at the input's end or at line 10001; or the run was given up, and then no line
+// more is run and nothing more is written.
+#[derive(Clone, Copy, PartialEq, Eq)]
+enum Stage {
+    Reading,
+    Read,
+    GivenUp,
+}
+
+// What a replay works on: the lent tables and the gauge, the line that has begun, and the output, with how much of it isn't written yet.
+#[derive(Drop)]
+struct Desk<'a> {
+    rt: HostRuntime,
+    lent: LentMut<'a>,
+    gauge: Gauge,
+    feed: Feed,
+    line: [u8; 121],
+    out: [u8; OUT_BYTES],
+    pending: usize,
+    stage: Stage,
 }
 
 fn main(rt: HostRuntime) {
@@ -33,322 +49,166 @@ fn main(rt: HostRuntime) {
     let mut stock = [0u64; 1];
     let mut entries = [0u32; 8192];
     let mut input = [0u8; 4096];
-    let mut line = [0u8; 121];
-    let mut out = [0u8; 4096];
-    replay(
+    let mut desk = Desk {
         rt,
-        &mut frames,
-        &mut domains,
-        &mut stock,
-        &mut entries,
-        &mut input,
-        &mut line,
-        &mut out,
-    );
-}
-
-// A fresh start with the program's marks, the first line, the script, the last line.
-fn replay(
-    rt: HostRuntime,
-    frames: &mut [u64],
-    domains: &mut [u64],
-    stock: &mut [u64],
-    entries: &mut [u32],
-    input: &mut [u8],
-    line: &mut [u8],
-    out: &mut [u8],
-) {
-    let gauge = start(frames, domains, stock, entries);
-    let begun = begin(out, gauge);
-    let ended = run_script(rt, frames, domains, stock, entries, input, line, out, begun);
-    finish(rt, frames, out, ended);
-}
-
-fn start(frames: &mut [u64], domains: &mut [u64], stock: &mut [u64], entries: &mut [u32]) -> Gauge {
-    let base = Hpa(BASE_BYTES);
-    let g = book_gauge::fresh_gauge();
-    let fresh = door_asks::answer_ask(base, frames, domains, stock, entries, g, Ask::Reset);
-    let marks = Ask::Marks(0.75, 0.5);
-    let set = door_asks::answer_ask(base, frames, domains, stock, entries, fresh.gauge, marks);
-    set.gauge
-}
-
-fn run_script(
-    rt: HostRuntime,
-    frames: &mut [u64],
-    domains: &mut [u64],
-    stock: &mut [u64],
-    entries: &mut [u32],
-    input: &mut [u8],
-    line: &mut [u8],
-    out: &mut [u8],
-    begun: State,
-) -> State {
-    let read = read_all(rt, frames, domains, stock, entries, input, line, out, begun);
-    end_line(rt, frames, domains, stock, entries, line, out, read)
-}
-
-fn begin(out: &mut [u8], gauge: Gauge) -> State {
-    let n = door_answers::write_first(out, FRAMES);
-    State {
-        gauge,
+        lent: LentMut {
+            base: Hpa(BASE_BYTES),
+            frames: &mut frames,
+            domains: &mut domains,
+            stock: &mut stock,
+            entries: &mut entries,
+        },
+        gauge: book_gauge::fresh_gauge(),
         feed: Feed { lines: 0, held: 0 },
-        pending: door_feed::within(n, out),
-        stopped: false,
-        given_up: false,
+        line: [0; 121],
+        out: [0; OUT_BYTES],
+        pending: 0,
+        stage: Stage::Reading,
+    };
+    desk.replay(&mut input);
+}
+
+impl Desk<'_> {
+    // A fresh start with the program's marks, the first line, the script, the last line.
+    fn replay(&mut self, input: &mut [u8]) {
+        self.ask(Ask::Reset);
+        self.ask(Ask::Marks(0.75, 0.5));
+        let n = door_answers::write_first(&mut self.out, FRAMES);
+        self.pending = door_feed::within(n, &self.out);
+        self.read_all(input);
+        self.end_line();
+        self.finish();
     }
-}
 
-// The last line says that the whole script was read and answered. A run that was given up has none.
-fn finish(rt: HostRuntime, frames: &[u64], out: &mut [u8], s: State) {
-    let done = flush(rt, out, s);
-    if done.given_up {
-        return;
+    fn ask(&mut self, ask: Ask) {
+        self.gauge = door_asks::answer_ask(&mut self.lent, self.gauge, ask).gauge;
     }
-    let g = done.gauge;
-    let last = door_answers::write_last(out, count::used_frames(frames), g.lamp);
-    let n = door_feed::within(last, out);
-    let closed = with_pending(done, n);
-    flush(rt, out, closed);
-}
 
-// The pending output is written, or the run is given up.
-fn flush(rt: HostRuntime, out: &[u8], s: State) -> State {
-    if s.given_up {
-        return s;
-    }
-    let n = door_feed::within(s.pending, out);
-    if rt.write_all(&out[..n]).is_ok() {
-        return with_pending(s, 0);
-    }
-    tell(rt, b"replay: the answers can't be written\n");
-    give_up(s)
-}
-
-// What can't be said on standard error isn't said.
-fn tell(rt: HostRuntime, words: &[u8]) {
-    let _ = rt.stderr().write_all(words);
-}
-
-fn with_pending(old: State, pending: usize) -> State {
-    let mut s = old;
-    s.pending = pending;
-    s
-}
-
-fn stop(old: State) -> State {
-    let mut s = old;
-    s.stopped = true;
-    s
-}
-
-fn give_up(old: State) -> State {
-    let mut s = stop(old);
-    s.given_up = true;
-    s
-}
-
-// Room for one answer more.
-fn with_room(rt: HostRuntime, out: &[u8], s: State) -> State {
-    let n = door_feed::within(s.pending, out);
-    if out.len() - n < ANSWER_BYTES {
-        return flush(rt, out, s);
-    }
-    s
-}
-
-// The line held, run as line `number`.
-fn run_line(
-    rt: HostRuntime,
-    frames: &mut [u64],
-    domains: &mut [u64],
-    stock: &mut [u64],
-    entries: &mut [u32],
-    line: &[u8],
-    out: &mut [u8],
-    number: u64,
-    old: State,
-) -> State {
-    let s = with_room(rt, out, old);
-    let gauge = s.gauge;
-    let feed = s.feed;
-    let held = door_feed::within(feed.held, line);
-    let at = door_feed::within(s.pending, out);
-    let most = out.len();
-    let r = door_session::reply(
-        Hpa(BASE_BYTES),
-        frames,
-        domains,
-        stock,
-        entries,
-        gauge,
-        &line[..held],
-        number,
-        &mut out[at..],
-    );
-    let now = r.gauge;
-    State {
-        gauge: now,
-        feed,
-        pending: door_feed::advanced(at, r.wrote, most),
-        stopped: s.stopped,
-        given_up: s.given_up,
-    }
-}
-
-// Line 10001 answers 15 and ends the reading.
-fn stop_at(rt: HostRuntime, out: &mut [u8], old: State) -> State {
-    let s = with_room(rt, out, old);
-    let at = door_feed::within(s.pending, out);
-    let most = out.len();
-    let n = door_answers::write_unreadable(&mut out[at..], door_feed::LINES_MOST + 1);
-    let pending = door_feed::advanced(at, n, most);
-    stop(with_pending(s, pending))
-}
-
-fn with_feed(old: State, feed: Feed) -> State {
-    let mut s = old;
-    s.feed = feed;
-    s
-}
-
-fn take_byte(
-    rt: HostRuntime,
-    frames: &mut [u64],
-    domains: &mut [u64],
-    stock: &mut [u64],
-    entries: &mut [u32],
-    line: &mut [u8],
-    out: &mut [u8],
-    byte: u8,
-    s: State,
-) -> State {
-    let feed = s.feed;
-    match door_feed::turn_of(feed, byte) {
-        Turn::Hold(next) => {
-            door_feed::hold(line, feed.held, byte);
-            with_feed(s, next)
+    // The last line says that the whole script was read and answered. A run that was given up has none.
+    fn finish(&mut self) {
+        self.flush();
+        if self.stage == Stage::GivenUp {
+            return;
         }
-        Turn::Ends(next) => {
-            let t = run_line(
-                rt, frames, domains, stock, entries, line, out, next.lines, s,
-            );
-            with_feed(t, next)
-        }
-        Turn::Stop => stop_at(rt, out, s),
+        let used = count::used_frames(self.lent.frames);
+        let n = door_answers::write_last(&mut self.out, used, self.gauge.lamp);
+        self.pending = door_feed::within(n, &self.out);
+        self.flush();
     }
-}
 
-fn take_part(
-    rt: HostRuntime,
-    frames: &mut [u64],
-    domains: &mut [u64],
-    stock: &mut [u64],
-    entries: &mut [u32],
-    line: &mut [u8],
-    out: &mut [u8],
-    part: &[u8],
-    begun: State,
-) -> State {
-    let mut s = begun;
-    let mut i = 0;
-    while i < part.len() {
-        if s.stopped {
-            return s;
+    // The pending output is written, or the run is given up.
+    fn flush(&mut self) {
+        if self.stage == Stage::GivenUp {
+            return;
         }
-        s = take_byte(rt, frames, domains, stock, entries, line, out, part[i], s);
-        i += 1;
+        let rt = self.rt;
+        let n = door_feed::within(self.pending, &self.out);
+        if rt.write_all(&self.out[..n]).is_ok() {
+            self.pending = 0;
+        } else {
+            self.give_up(b"replay: the answers can't be written\n");
+        }
     }
-    s
-}
 
-// One part of the input, or its end. If it can't be read, what was answered is still written.
-fn read_part(
-    rt: HostRuntime,
-    frames: &mut [u64],
-    domains: &mut [u64],
-    stock: &mut [u64],
-    entries: &mut [u32],
-    input: &mut [u8],
-    line: &mut [u8],
-    out: &mut [u8],
-    s: State,
-) -> State {
-    match rt.stdin().read(input) {
-        Err(_) => {
-            let told = flush(rt, out, s);
-            tell(rt, b"replay: standard input can't be read\n");
-            give_up(told)
+    // What can't be said on standard error isn't said.
+    fn give_up(&mut self, words: &[u8]) {
+        let _ = self.rt.stderr().write_all(words);
+        self.stage = Stage::GivenUp;
+    }
+
+    // The reading is over, unless the run was given up.
+    fn stop(&mut self) {
+        if self.stage == Stage::Reading {
+            self.stage = Stage::Read;
         }
-        Ok(0) => stop(s),
-        Ok(n) => take_part(
-            rt,
-            frames,
-            domains,
-            stock,
-            entries,
+    }
+
+    // The place of the next answer, with room for it.
+    fn place(&mut self) -> usize
+        ensures { result ≤ OUT_BYTES }
+    {
+        let n = door_feed::within(self.pending, &self.out);
+        if OUT_BYTES - n < ANSWER_BYTES {
+            self.flush();
+        }
+        door_feed::within(self.pending, &self.out)
+    }
+
+    // The line held, run as line `number`.
+    fn run_line(&mut self, number: u64) {
+        let at = self.place();
+        let held = door_feed::within(self.feed.held, &self.line);
+        let gauge = self.gauge;
+        let Desk {
+            lent,
             line,
             out,
-            &input[..n],
-            s,
-        ),
+            ..
+        } = self;
+        let r = door_session::reply(lent, gauge, &line[..held], number, &mut out[at..]);
+        self.gauge = r.gauge;
+        self.pending = door_feed::advanced(at, r.wrote, OUT_BYTES);
     }
-}
 
-// The whole input, a part at a time. No input is longer than the turns counted.
-fn read_all(
-    rt: HostRuntime,
-    frames: &mut [u64],
-    domains: &mut [u64],
-    stock: &mut [u64],
-    entries: &mut [u32],
-    input: &mut [u8],
-    line: &mut [u8],
-    out: &mut [u8],
-    begun: State,
-) -> State {
-    let mut s = begun;
-    let mut turns = u64::MAX;
-    while turns > 0 {
-        if s.stopped {
-            return s;
+    // Line 10001 answers 15 and ends the reading.
+    fn stop_at(&mut self) {
+        let at = self.place();
+        let n = door_answers::write_unreadable(&mut self.out[at..], door_feed::LINES_MOST + 1);
+        self.pending = door_feed::advanced(at, n, OUT_BYTES);
+        self.stop();
+    }
+
+    fn take_byte(&mut self, byte: u8) {
+        match self.feed.turn_of(byte) {
+            Turn::Hold(next) => {
+                door_feed::hold(&mut self.line, self.feed.held, byte);
+                self.feed = next;
+            }
+            Turn::Ends(next) => {
+                self.run_line(next.lines);
+                self.feed = next;
+            }
+            Turn::Stop => self.stop_at(),
         }
-        turns -= 1;
-        s = read_part(rt, frames, domains, stock, entries, input, line, out, s);
     }
-    s
-}
 
-// A last line may lack its LF. Where the run was given up, nobody knows how the line goes on: it isn't run.
-fn end_line(
-    rt: HostRuntime,
-    frames: &mut [u64],
-    domains: &mut [u64],
-    stock: &mut [u64],
-    entries: &mut [u32],
-    line: &[u8],
-    out: &mut [u8],
-    s: State,
-) -> State {
-    if s.given_up {
-        return s;
+    fn take_part(&mut self, part: &[u8]) {
+        for &byte in part {
+            if self.stage != Stage::Reading {
+                return;
+            }
+            self.take_byte(byte);
+        }
     }
-    let feed = s.feed;
-    if feed.held == 0 {
-        return s;
+
+    // One part of the input, or its end. If it can't be read, what was answered is still written.
+    fn read_part(&mut self, input: &mut [u8]) {
+        match self.rt.stdin().read(input) {
+            Err(_) => {
+                self.flush();
+                self.give_up(b"replay: standard input can't be read\n");
+            }
+            Ok(0) => self.stop(),
+            Ok(n) => self.take_part(&input[..n]),
+        }
     }
-    if feed.lines >= door_feed::LINES_MOST {
-        return s;
+
+    // The whole input, a part at a time. No input is longer than the turns counted.
+    fn read_all(&mut self, input: &mut [u8]) {
+        for _ in 0..u64::MAX {
+            if self.stage != Stage::Reading {
+                return;
+            }
+            self.read_part(input);
+        }
     }
-    run_line(
-        rt,
-        frames,
-        domains,
-        stock,
-        entries,
-        line,
-        out,
-        feed.lines + 1,
-        s,
-    )
+
+    // A last line may lack its LF. Where the run was given up, nobody knows how the line goes on: it isn't run.
+    fn end_line(&mut self) {
+        let Feed { lines, held } = self.feed;
+        if self.stage == Stage::GivenUp || held == 0 || lines >= door_feed::LINES_MOST {
+            return;
+        }
+        self.run_line(lines + 1);
+    }
 }

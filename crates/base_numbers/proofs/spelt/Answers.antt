@@ -1,14 +1,17 @@
-use Rattle.base_numbers.proofs.Numbers.{spelling_stop, spelling_over, spelling_more, spelling_end}
+use Rattle.base_numbers.proofs.Numbers.{spelling_stop, spelling_over, spelling_over_by, spelling_more, spelling_end}
 use Rattle.base_numbers.proofs.spelt.Goals as goal
 
-pub returns-then-not-is_digit : goal.returns-then-not-is_digit
-returns-then-not-is_digit c = search spelling_stop
+pub returns-then-not-is_ascii_digit : goal.returns-then-not-is_ascii_digit
+returns-then-not-is_ascii_digit c = search spelling_stop
 
-pub returns-then-value-digit : goal.returns-then-value-digit
-returns-then-value-digit c = search spelling_over
+pub returns-in_err-checked_mul : goal.returns-in_err-checked_mul
+returns-in_err-checked_mul c = rw c.from_residual.ensures (search (spelling_over, c.in_err-checked_mul.ensures))
 
-pub loop-i-preserved : goal.loop-i-preserved
-loop-i-preserved c = search spelling_more
+pub returns-in_err-value : goal.returns-in_err-value
+returns-in_err-value c = rw c.from_residual-in_err-value.ensures (search (spelling_over_by, c.in_ok-checked_mul.ensures, c.in_err-value.ensures))
+
+pub loop-byte-preserved : goal.loop-byte-preserved
+loop-byte-preserved c = search (spelling_more, c.in_ok-checked_mul.ensures, c.in_ok-value.ensures)
 
 pub returns : goal.returns
 returns c = search spelling_end

@@ -1,24 +1,16 @@
-use Rattle.base_rules.proofs.Facts.{steps}
+use Rattle.base_rules.specs.Basics.{choose}
+use Rattle.base_rules.proofs.Facts.{refl}
 use Rattle.book_gauge.specs.Marks.{same_bits}
-use Rattle.book_gauge.proofs.Marks.{nan_told, number_told}
 use Rattle.book_gauge.proofs.same_bits.Goals as goal
 
-pub returns-then-a : goal.returns-then-a
-unfolding same_bits
-returns-then-a c = search (steps, nan_told, number_told) depth 12
+pub returns-then-is_nan : goal.returns-then-is_nan
+unfolding same_bits choose
+returns-then-is_nan c = rw (← c.is_nan.ensures.value, c.if-is_nan.true) refl
 
-pub returns-then-b : goal.returns-then-b
-unfolding same_bits
-returns-then-b c = search (steps, nan_told, number_told) depth 12
-
-pub float_to_bits-result : goal.float_to_bits-result
-unfolding same_bits
-float_to_bits-result c = rw (number_told _ c.if-a.false) tt
-
-pub float_to_bits-result-2 : goal.float_to_bits-result-2
-unfolding same_bits
-float_to_bits-result-2 c = rw (number_told _ c.if-b.false) tt
+pub returns-then-is_nan-2 : goal.returns-then-is_nan-2
+unfolding same_bits choose
+returns-then-is_nan-2 c = rw (← c.is_nan.ensures.value, c.if-is_nan.false, ← c.is_nan-2.ensures.value, c.if-is_nan-2.true) refl
 
 pub returns : goal.returns
-unfolding same_bits
-returns c = search (steps, nan_told, number_told) depth 12
+unfolding same_bits choose
+returns c = rw (← c.is_nan.ensures.value, c.if-is_nan.false, ← c.is_nan-2.ensures.value, c.if-is_nan-2.false) refl

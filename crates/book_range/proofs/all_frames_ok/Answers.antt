@@ -1,16 +1,15 @@
-use Rattle.base_rules.proofs.Facts.{refl, rules, all_start, alls}
-use Rattle.book_range.specs.Range.{all_frames_ok}
+use Rattle.std.proofs.Common.{rules, refl}
+use borrow.Author.Tests.{tests}
+use lib.Seq.{take_all}
+use Rattle.base_rules.specs.Basics.{length, given}
+use Rattle.base_rules.proofs.Facts.{arith, le_refl}
+use Rattle.base_rules.proofs.Chains.{all_words}
+use Rattle.book_ledger.specs.{Tables.frame_at, Words.frame_from}
+use Rattle.book_range.specs.Range.{frame_ok, frame_fits, all_frames_ok}
 use Rattle.book_range.proofs.all_frames_ok.Goals as goal
 
-pub loop-n-init : goal.loop-n-init
-unfolding all_frames_ok
-loop-n-init c = all_start _ _ refl
-
-pub returns-then-not-frame_ok : goal.returns-then-not-frame_ok
-returns-then-not-frame_ok c = search alls
-
-pub loop-n-preserved : goal.loop-n-preserved
-loop-n-preserved c = search (rules, alls)
-
 pub returns : goal.returns
-returns c = search alls
+unfolding all_frames_ok frame_ok frame_at given
+returns c =
+    all_words (frame_ok c.args.s c.args.frames.now) (λ w. frame_fits c.args.s (frame_from w)) (length c.args.frames.now) c.args.frames.now
+    c.all.ensures.ran (rw (take_all _ _ (le_refl _)) c.iter.ensures.rest) (λ l. absurd (omega arith)) (λ i l. refl) (λ x b q k. search (rules, tests))

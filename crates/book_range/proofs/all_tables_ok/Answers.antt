@@ -1,16 +1,9 @@
-use Rattle.base_rules.proofs.Facts.{refl, rules, all_start, alls}
-use Rattle.book_range.specs.Range.{all_tables_ok}
+use Rattle.std.proofs.Common.{rules}
+use borrow.Author.Tests.{tests}
+use Rattle.book_range.specs.Range.{table_ok, all_tables_ok}
+use Rattle.base_rules.proofs.Chains.{all_below}
 use Rattle.book_range.proofs.all_tables_ok.Goals as goal
 
-pub loop-table-init : goal.loop-table-init
-unfolding all_tables_ok
-loop-table-init c = all_start _ _ refl
-
-pub returns-then-not-table_ok : goal.returns-then-not-table_ok
-returns-then-not-table_ok c = search alls
-
-pub loop-table-preserved : goal.loop-table-preserved
-loop-table-preserved c = search (rules, alls)
-
 pub returns : goal.returns
-returns c = search alls
+unfolding all_tables_ok
+returns c = all_below (table_ok c.args.s.frames c.args.t.now.stock.now c.args.t.now.entries.now) _ c.all.ensures.ran (cc) (λ x b q k. search (rules, tests))

@@ -1,19 +1,14 @@
 use Rattle.base_rules.proofs.Facts.{steps}
-use Rattle.book_range.specs.Range.{frame_ok}
 use Rattle.book_range.proofs.frame_ok.Goals as goal
 
 pub returns-then-owner-l : goal.returns-then-owner-l
-unfolding frame_ok
 returns-then-owner-l c = search steps depth 12
 
 pub returns-then-f-l : goal.returns-then-f-l
-unfolding frame_ok
 returns-then-f-l c = search steps depth 12
 
 pub returns-then-f-l-2 : goal.returns-then-f-l-2
-unfolding frame_ok
 returns-then-f-l-2 c = search steps depth 12
 
 pub returns : goal.returns
-unfolding frame_ok
 returns c = search steps depth 12

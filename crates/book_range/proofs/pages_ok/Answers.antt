@@ -1,16 +1,9 @@
-use Rattle.base_rules.proofs.Facts.{refl, rules, all_start, alls}
-use Rattle.book_range.specs.Range.{pages_ok}
+use Rattle.std.proofs.Common.{rules}
+use borrow.Author.Tests.{tests}
+use Rattle.book_range.specs.Range.{page_ok, pages_ok}
+use Rattle.base_rules.proofs.Chains.{all_below}
 use Rattle.book_range.proofs.pages_ok.Goals as goal
 
-pub loop-page-init : goal.loop-page-init
-unfolding pages_ok
-loop-page-init c = all_start _ _ refl
-
-pub returns-then-not-page_ok : goal.returns-then-not-page_ok
-returns-then-not-page_ok c = search alls
-
-pub loop-page-preserved : goal.loop-page-preserved
-loop-page-preserved c = search (rules, alls)
-
 pub returns : goal.returns
-returns c = search alls
+unfolding pages_ok
+returns c = all_below (page_ok c.args.frames c.args.listed c.args.domains.now c.args.rec) _ c.all.ensures.ran (cc) (λ x b q k. search (rules, tests))

@@ -1,9 +1,9 @@
 use Rattle.call_carry.specs.Carry.{applied}
 use Rattle.call_carry.proofs.apply.Goals as goal
 
-pub returns : goal.returns
+pub returns-clause-tables : goal.returns-clause-tables
 unfolding applied
-returns c = rw (
+returns-clause-tables c = rw (
   c.apply_frame.ensures,
   c.apply_use.ensures,
   c.apply_page.ensures,

@@ -1,17 +1,15 @@
-use Rattle.base_rules.proofs.Facts.{ap}
-use Rattle.base_calls.specs.declared.Answer.TheVariants.{Done}
-use Rattle.call_carry.specs.Carry.{carried_out, carried, swept_tables}
+use Rattle.base_rules.proofs.Facts.{passed_on}
+use Rattle.call_carry.proofs.Carried.{refused, told, done, swept_all}
 use Rattle.call_carry.proofs.carry.Goals as goal
 
-pub returns-in-Say : goal.returns-in-Say
-unfolding carried swept_tables
-returns-in-Say c = rw c.in-Say.is
+pub returns-in_err-deed-clause-tables : goal.returns-in_err-deed-clause-tables
+returns-in_err-deed-clause-tables c = refused _ c.in_err-deed.was (passed_on c.from_residual.ensures)
 
-pub returns-in-Do : goal.returns-in-Do
-unfolding carried swept_tables
-returns-in-Do c = rw c.in-Do.is
-    (ap (carried_out Done) c.apply.ensures)
+pub returns-in-Tell-clause-tables : goal.returns-in-Tell-clause-tables
+returns-in-Tell-clause-tables c = told _ c.in_ok-deed.was c.in-Tell.is
 
-pub returns-in-Each : goal.returns-in-Each
-unfolding carried swept_tables
-returns-in-Each c = rw (c.in-Each.is, c.sweep_records.ensures)
+pub returns-in-Do-clause-tables : goal.returns-in-Do-clause-tables
+returns-in-Do-clause-tables c = done _ c.in_ok-deed.was c.in-Do.is c.apply.ensures.tables
+
+pub returns-in-Each-clause-tables : goal.returns-in-Each-clause-tables
+returns-in-Each-clause-tables c = swept_all _ c.in_ok-deed.was c.in-Each.is c.sweep.ensures.tables

@@ -1,16 +1,9 @@
-use Rattle.base_rules.proofs.Facts.{refl, rules, alls}
-use Rattle.call_domains.specs.Domains.{key_unused}
+use Rattle.std.proofs.Common.{rules}
+use borrow.Author.Tests.{tests}
+use Rattle.base_rules.proofs.Chains.{all_between}
+use Rattle.call_domains.specs.Domains.{other_key, key_unused}
 use Rattle.call_domains.proofs.key_unused.Goals as goal
 
-pub loop-bit-init : goal.loop-bit-init
-unfolding key_unused
-loop-bit-init c = refl
-
-pub returns-then-not-other_key : goal.returns-then-not-other_key
-returns-then-not-other_key c = search alls
-
-pub loop-bit-preserved : goal.loop-bit-preserved
-loop-bit-preserved c = search (rules, alls)
-
 pub returns : goal.returns
-returns c = search alls
+unfolding key_unused
+returns c = all_between (other_key c.args.domains.now c.args.stock.now c.args.first c.args.key) _ _ c.all.ensures.ran (cc) (λ x b q k. search (rules, tests))

@@ -4,12 +4,12 @@ use Rattle.call_domains.proofs.other_key.Goals as goal
 
 pub returns-then-not-in_use : goal.returns-then-not-in_use
 unfolding other_key
-returns-then-not-in_use c = search ons depth 16
+returns-then-not-in_use c = search (ons, c.in_use.ensures) depth 16
 
 pub returns-then-d-key : goal.returns-then-d-key
 unfolding other_key
-returns-then-d-key c = search ons depth 16
+returns-then-d-key c = search (ons, c.in_use.ensures, c.saturating_sub.ensures, c.domain_at-d.ensures) depth 16
 
 pub returns : goal.returns
 unfolding other_key
-returns c = search ons depth 16
+returns c = search (ons, c.in_use.ensures, c.saturating_sub.ensures, c.domain_at-d.ensures) depth 16

@@ -2,14 +2,14 @@ use Rattle.call_plan.proofs.Ons.{ons}
 use Rattle.call_domains.specs.Domains.{create_plan}
 use Rattle.call_domains.proofs.plan_create.Goals as goal
 
-pub returns-then-not-key_ok : goal.returns-then-not-key_ok
+pub returns-in_err-f : goal.returns-in_err-f
 unfolding create_plan
-returns-then-not-key_ok c = search ons depth 16
+returns-in_err-f c = search (ons, c.frame_operand.ensures, c.in_err-f.was) depth 16
 
-pub returns-in-Bad : goal.returns-in-Bad
+pub returns-then-not-allow : goal.returns-then-not-allow
 unfolding create_plan
-returns-in-Bad c = search ons depth 16
+returns-then-not-allow c = search (ons, c.frame_operand.ensures, c.in_ok-f.was, c.allow.ensures) depth 16
 
-pub returns-else-not-key_ok : goal.returns-else-not-key_ok
+pub returns : goal.returns
 unfolding create_plan
-returns-else-not-key_ok c = search ons depth 16
+returns c = search (ons, c.frame_operand.ensures, c.in_ok-f.was, c.allow.ensures, c.creates.ensures) depth 16

@@ -2,14 +2,14 @@ use Rattle.call_plan.proofs.Ons.{ons}
 use Rattle.call_domains.specs.Domains.{life_plan}
 use Rattle.call_domains.proofs.plan_life.Goals as goal
 
-pub returns-then-not-is_between : goal.returns-then-not-is_between
+pub returns-in_err-x : goal.returns-in_err-x
 unfolding life_plan
-returns-then-not-is_between c = search ons depth 16
+returns-in_err-x c = search (ons, c.find_parties.ensures, c.in_err-x.was) depth 16
 
-pub returns-in-Not : goal.returns-in-Not
+pub returns-then-not-allow : goal.returns-then-not-allow
 unfolding life_plan
-returns-in-Not c = search ons depth 16
+returns-then-not-allow c = search (ons, c.find_parties.ensures, c.in_ok-x.was, c.allow.ensures) depth 16
 
-pub returns-else-not-is_between : goal.returns-else-not-is_between
+pub returns : goal.returns
 unfolding life_plan
-returns-else-not-is_between c = search ons depth 16
+returns c = search (ons, c.find_parties.ensures, c.in_ok-x.was, c.allow.ensures, c.becomes.ensures) depth 16

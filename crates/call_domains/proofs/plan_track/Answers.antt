@@ -2,14 +2,14 @@ use Rattle.call_plan.proofs.Ons.{ons}
 use Rattle.call_domains.specs.Domains.{track_plan}
 use Rattle.call_domains.proofs.plan_track.Goals as goal
 
-pub returns-then-d-ge-EPOCH_MOST : goal.returns-then-d-ge-EPOCH_MOST
+pub returns-in_err-x : goal.returns-in_err-x
 unfolding track_plan
-returns-then-d-ge-EPOCH_MOST c = search ons depth 16
+returns-in_err-x c = search (ons, c.find_built.ensures, c.in_err-x.was) depth 16
 
-pub returns-in-Not : goal.returns-in-Not
+pub returns-then-x : goal.returns-then-x
 unfolding track_plan
-returns-in-Not c = search ons depth 16
+returns-then-x c = search (ons, c.find_built.ensures, c.in_ok-x.was) depth 16
 
-pub returns-else-d-ge-EPOCH_MOST : goal.returns-else-d-ge-EPOCH_MOST
+pub returns : goal.returns
 unfolding track_plan
-returns-else-d-ge-EPOCH_MOST c = search ons depth 16
+returns c = search (ons, c.find_built.ensures, c.in_ok-x.was, c.becomes.ensures) depth 16

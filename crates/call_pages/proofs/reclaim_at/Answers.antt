@@ -4,20 +4,20 @@ use Rattle.call_pages.proofs.reclaim_at.Goals as goal
 
 pub returns-then-f-eq-NDA : goal.returns-then-f-eq-NDA
 unfolding reclaim_at
-returns-then-f-eq-NDA c = search ons depth 16
+returns-then-f-eq-NDA c = search (ons, c.frame_at-f.ensures) depth 16
 
-pub returns-in-Not : goal.returns-in-Not
+pub returns-in_default : goal.returns-in_default
 unfolding reclaim_at
-returns-in-Not c = search ons depth 16
+returns-in_default c = search (ons, c.frame_at-f.ensures, c.find_domain.ensures, c.in_default.is) depth 16
 
-pub returns-in-Is : goal.returns-in-Is
+pub returns-then-f-eq-TDR : goal.returns-then-f-eq-TDR
 unfolding reclaim_at
-returns-in-Is c = search ons depth 16
+returns-then-f-eq-TDR c = search (ons, c.frame_at-f.ensures, c.find_domain.ensures, c.in-Ok.is, c.reclaim_tdr.ensures) depth 16
 
-pub returns-in-Not-find_domain : goal.returns-in-Not-find_domain
+pub returns-in_default-find_domain : goal.returns-in_default-find_domain
 unfolding reclaim_at
-returns-in-Not-find_domain c = search ons depth 16
+returns-in_default-find_domain c = search (ons, c.frame_at-f.ensures, c.find_domain-2.ensures, c.in_default-find_domain.is) depth 16
 
-pub returns-in-Is-find_domain : goal.returns-in-Is-find_domain
+pub returns : goal.returns
 unfolding reclaim_at
-returns-in-Is-find_domain c = search ons depth 16
+returns c = search (ons, c.frame_at-f.ensures, c.find_domain-2.ensures, c.in-Ok-find_domain.is, c.reclaim_child.ensures) depth 16

@@ -1,12 +1,12 @@
 use Rattle.base_rules.proofs.Facts.{steps}
-use Rattle.call_run.specs.Runs.{used_after}
 use Rattle.call_run.proofs.Arms.{edit_is}
+use Rattle.call_run.specs.Runs.{used_after}
 use Rattle.call_run.proofs.used_after.Goals as goal
 
-pub returns-in-Keep : goal.returns-in-Keep
+pub returns : goal.returns
 unfolding used_after
-returns-in-Keep c = search (edit_is, steps) depth 12
+returns c = search (edit_is, steps) depth 12
 
-pub returns-in-Set : goal.returns-in-Set
+pub returns-in_default : goal.returns-in_default
 unfolding used_after
-returns-in-Set c = search (edit_is, steps) depth 12
+returns-in_default c = search (edit_is, steps) depth 12

@@ -2,10 +2,10 @@ use Rattle.call_plan.proofs.Ons.{ons}
 use Rattle.call_trees.specs.Trees.{block_plan}
 use Rattle.call_trees.proofs.plan_block.Goals as goal
 
-pub returns-in-Not : goal.returns-in-Not
+pub returns-in_err-x : goal.returns-in_err-x
 unfolding block_plan
-returns-in-Not c = search ons depth 16
+returns-in_err-x c = search (ons, c.find_live.ensures, c.in_err-x.was) depth 16
 
-pub returns-in-Are : goal.returns-in-Are
+pub returns : goal.returns
 unfolding block_plan
-returns-in-Are c = search ons depth 16
+returns c = search (ons, c.find_live.ensures, c.in_ok-x.was, c.block_at.ensures) depth 16

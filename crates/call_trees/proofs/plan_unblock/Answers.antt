@@ -2,10 +2,10 @@ use Rattle.call_plan.proofs.Ons.{ons}
 use Rattle.call_trees.specs.Trees.{unblock_plan}
 use Rattle.call_trees.proofs.plan_unblock.Goals as goal
 
-pub returns-in-Not : goal.returns-in-Not
+pub returns-in_err-x : goal.returns-in_err-x
 unfolding unblock_plan
-returns-in-Not c = search ons depth 16
+returns-in_err-x c = search (ons, c.find_live.ensures, c.in_err-x.was) depth 16
 
-pub returns-in-Are : goal.returns-in-Are
+pub returns : goal.returns
 unfolding unblock_plan
-returns-in-Are c = search ons depth 16
+returns c = search (ons, c.find_live.ensures, c.in_ok-x.was, c.unblock_at.ensures) depth 16

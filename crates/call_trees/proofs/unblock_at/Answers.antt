@@ -2,10 +2,10 @@ use Rattle.call_plan.proofs.Ons.{ons}
 use Rattle.call_trees.specs.Trees.{unblock_at}
 use Rattle.call_trees.proofs.unblock_at.Goals as goal
 
-pub returns-in-Not : goal.returns-in-Not
+pub returns-in_err-at : goal.returns-in_err-at
 unfolding unblock_at
-returns-in-Not c = search ons depth 16
+returns-in_err-at c = search (ons, c.tracked_for.ensures, c.in_err-at.was) depth 16
 
-pub returns-in-At : goal.returns-in-At
+pub returns : goal.returns
 unfolding unblock_at
-returns-in-At c = search ons depth 16
+returns c = search (ons, c.tracked_for.ensures, c.in_ok-at.was, c.unblocked_state-state.ensures) depth 16

@@ -4,8 +4,4 @@ use Rattle.book_ledger.specs.Count.{one_used, used_frames}
 use Rattle.book_ledger.proofs.count.used_frames.Given as goal
 
 abbrev pub invariant-loop-n : goal.invariant-loop-n
-invariant-loop-n l = (l.n ≤ length l.frames) × ((l.used ≤ l.n)
-    × (used_frames l.frames ≡ l.used + sum_from (one_used l.frames) l.n (length l.frames - l.n)))
-
-abbrev pub decreases-loop-n : goal.decreases-loop-n
-decreases-loop-n l = length l.frames - l.n
+invariant-loop-n l = (l.used ≤ l.n) × (used_frames l.frames ≡ l.used + sum_from (one_used l.frames) l.n (length l.frames - l.n))

@@ -3,4 +3,4 @@ use Rattle.book_ledger.proofs.tables.put_domain.Goals as goal
 
 pub returns : goal.returns
 unfolding set_domain
-returns c = rw (← c.pack_domain.ensures) c.put_record_word.ensures
+returns c = rw (← c.from.ensures) c.put_record_word.ensures

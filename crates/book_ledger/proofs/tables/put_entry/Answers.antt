@@ -1,15 +1,12 @@
-use Rattle.base_rules.proofs.Facts.{arith, set_out, sym}
+use Rattle.base_rules.proofs.Facts.{arith}
 use Rattle.book_ledger.specs.Tables.{set_entry}
+use Rattle.book_ledger.proofs.Outside.{cut_set, cut_out}
 use Rattle.book_ledger.proofs.tables.put_entry.Goals as goal
 
-pub returns-then-at-entries : goal.returns-then-at-entries
+pub returns-then-place-entries : goal.returns-then-place-entries
 unfolding set_entry
-returns-then-at-entries c = rw c.pack_entry.ensures
+returns-then-place-entries c = rw c.from.ensures (cut_set _ _ _ c.place-place.ensures (omega arith) _ c.if-place-entries.true)
 
-pub returns-else-at-entries : goal.returns-else-at-entries
+pub returns-else-place-entries : goal.returns-else-place-entries
 unfolding set_entry
-returns-else-at-entries c = sym (set_out _ _ _ (omega arith))
-
-pub returns-else-block-entries : goal.returns-else-block-entries
-unfolding set_entry
-returns-else-block-entries c = sym (set_out _ _ _ (omega arith))
+returns-else-place-entries c = cut_out _ _ _ c.place-place.ensures (omega arith) _ c.if-place-entries.false

@@ -4,7 +4,7 @@ use Rattle.book_ledger.proofs.tables.put_frame.Goals as goal
 
 pub returns-then-at-frames : goal.returns-then-at-frames
 unfolding set_frame
-returns-then-at-frames c = rw c.pack_frame.ensures
+returns-then-at-frames c = rw c.from.ensures
 
 pub returns-else-at-frames : goal.returns-else-at-frames
 unfolding set_frame

@@ -2,18 +2,14 @@ use Rattle.call_plan.proofs.Ons.{ons}
 use Rattle.call_plan.specs.Entries.{entry_for}
 use Rattle.call_plan.proofs.entry.entry_for.Goals as goal
 
-pub returns-then-not-is_between : goal.returns-then-not-is_between
+pub returns-in_err-at : goal.returns-in_err-at
 unfolding entry_for
-returns-then-not-is_between c = search ons depth 16
+returns-in_err-at c = search (ons, c.in_err-at.was) depth 16
 
-pub returns-in-Stopped : goal.returns-in-Stopped
+pub returns-then-not-allow : goal.returns-then-not-allow
 unfolding entry_for
-returns-in-Stopped c = search ons depth 16
+returns-then-not-allow c = search (ons, c.in_ok-at.was) depth 16
 
-pub returns-in-Foreign : goal.returns-in-Foreign
+pub returns : goal.returns
 unfolding entry_for
-returns-in-Foreign c = search ons depth 16
-
-pub returns-else-not-is_between : goal.returns-else-not-is_between
-unfolding entry_for
-returns-else-not-is_between c = search ons depth 16
+returns c = search (ons, c.in_ok-at.was) depth 16

@@ -1,19 +1,14 @@
-use Rattle.door_script.specs.Lines.{number_in}
-use Rattle.door_script.proofs.{Ons.ons, Fields.skipping_past, Fields.skipping_more, Fields.skipping_found}
+use Rattle.std.proofs.Common.{rules, tests, eqb}
+use Rattle.std.proofs.lemmas.Iterator.Consumers.{nth_from_yields_List}
+use Rattle.std.proofs.lemmas.Iterator.Splits.{YieldsList-from_slice_split}
+use Rattle.door_script.specs.Text.{tab}
+use Rattle.door_script.proofs.Marks.{number_found}
 use Rattle.door_script.proofs.line.number_in.Goals as goal
 
-pub returns-then-at-line : goal.returns-then-at-line
-unfolding number_in
-returns-then-at-line c = search skipping_past
-
-pub loop-left-preserved : goal.loop-left-preserved
-unfolding number_in
-loop-left-preserved c = search skipping_more
-
-pub returns-in-Is : goal.returns-in-Is
-unfolding number_in
-returns-in-Is c = search (ons, skipping_found)
-
-pub returns-in-No : goal.returns-in-No
-unfolding number_in
-returns-in-No c = search (ons, skipping_found)
+pub returns : goal.returns
+returns c =
+    let line = c.args.line.now in
+    let cut = c.split.ensures in
+    rw c.unwrap_or.ensures (number_found line c.args.index c.nth-field.result _
+    (nth_from_yields_List _ _ _ c.nth-field.ensures.ran (YieldsList-from_slice_split _ (λ b. eqb b tab) line cut.rest cut.done cut.closure (λ x b q k. search (rules, tests))))
+    c.and_then.ensures)

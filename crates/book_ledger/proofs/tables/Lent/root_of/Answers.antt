@@ -1,0 +1,6 @@
+use Rattle.book_ledger.specs.Sizes.{bit_of, root_of}
+use Rattle.book_ledger.proofs.tables.Lent.root_of.Goals as goal
+
+pub returns : goal.returns
+unfolding bit_of root_of
+returns c = c.bit_of.ensures

@@ -1,0 +1,5 @@
+use Rattle.door_answers.proofs.Writes.{writes}
+use Rattle.door_answers.proofs.Pen.pairs.Goals as goal
+
+pub returns-clause-wrote : goal.returns-clause-wrote
+returns-clause-wrote c = search writes

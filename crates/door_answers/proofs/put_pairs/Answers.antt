@@ -1,5 +1,0 @@
-use Rattle.door_answers.proofs.Writes.{writes}
-use Rattle.door_answers.proofs.put_pairs.Goals as goal
-
-pub returns : goal.returns
-returns c = search writes

@@ -1,6 +1,0 @@
-use Rattle.door_script.specs.Lines.{numbers_of}
-use Rattle.door_script.proofs.line.call_of.Goals as goal
-
-pub returns : goal.returns
-unfolding numbers_of
-returns c = cc
