@@ -1,9 +1,8 @@
 -- One arm of a match, from what its pattern told: the rule at the value is the rule at the pattern. And the steps of a call, put together.
 use Rattle.base_rules.specs.Basics.{◌≡◌, ℕ, List, length, given}
-use Rattle.base_rules.proofs.Facts.{ap, ◌∙◌}
-use Rattle.base_units.specs.declared.address.{Hpa.Hpa, Pfn.Pfn}
+use Rattle.base_units.specs.declared.address.Hpa.{Hpa}
 use Rattle.book_gauge.specs.declared.Gauge.{Gauge}
-use Rattle.book_ledger.specs.{Count.one_used, Tables.Tables, Tables.frame_at, declared.words.Frame.Frame}
+use Rattle.book_ledger.specs.Tables.{Tables}
 use Rattle.base_calls.specs.Answers.{Answer}
 use Rattle.base_calls.specs.declared.{Ask.Ask, Ask.TheVariants.Reset, Call.Call}
 use Rattle.call_plan.specs.Edits.{FrameEdit, Plan}
@@ -14,9 +13,6 @@ use Rattle.call_run.specs.declared.Run.{Run}
 
 pub edit_is : (fs : List ℕ) (used : ℕ) {z : ℕ} {e k : FrameEdit} → e ≡ k → z ≡ used_after k fs used → z ≡ used_after e fs used
 edit_is fs used e h = rw e h
-
-pub plan_is : (fs : List ℕ) (used : ℕ) {z : ℕ} {p k : Plan} → p ≡ k → z ≡ used_by k fs used → z ≡ used_by p fs used
-plan_is fs used e h = rw e h
 
 module _ (base : Hpa) (t : Tables) (r : Run) where
   pub ask_is : {z : Next} {a k : Ask} → a ≡ k → z ≡ next_of base t r k → z ≡ next_of base t r a
