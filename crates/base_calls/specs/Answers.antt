@@ -31,6 +31,10 @@ hpa n = record { 0 = n }
 abbrev values : ℕ → ℕ → Hpa → ℕ → ℕ → Hpa → Values
 values n k o l s h = record { number = n; kind = k; owner = o; level = l; state = s; hpa = h }
 
+-- any number, and zeros
+abbrev pub plain : ℕ → Values
+plain n = values n 0 (hpa 0) 0 0 (hpa 0)
+
 -- "Zeros are read out except at 6, 7 and an accepted read"
 unfoldable pub values_of : Answer → Values
 values_of (Ok Done) = values 0 0 (hpa 0) 0 0 (hpa 0)

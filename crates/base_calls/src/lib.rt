@@ -2,7 +2,7 @@
 #![tactic(auto)]
 
 ghost use Rattle.std.specs.Prelude.{◌≡◌};
-ghost use Rattle.base_calls.specs.Answers.{number_of_fault, values_of};
+ghost use Rattle.base_calls.specs.Answers.{number_of_fault, plain, values_of};
 
 use base_units::address::{Gpa, Hpa};
 
@@ -151,15 +151,21 @@ pub struct Values {
     pub hpa: Hpa,
 }
 
-// Accepted, with nothing read out.
-const DONE: Values = Values {
-    number: 0,
-    kind: 0,
-    owner: Hpa(0),
-    level: 0,
-    state: 0,
-    hpa: Hpa(0),
-};
+impl Values {
+    // An answer of any number that reads out zeros.
+    pub fn plain(number: u64) -> Values
+        ensures { result ≡ plain number }
+    {
+        Values {
+            number,
+            kind: 0,
+            owner: Hpa(0),
+            level: 0,
+            state: 0,
+            hpa: Hpa(0),
+        }
+    }
+}
 
 impl From<Answer> for Values {
     ghost from_gives = { λ a v. v ≡ values_of a };
@@ -167,27 +173,23 @@ impl From<Answer> for Values {
     #[tactic(auto, unfolding(crate::specs::Answers::values_of))]
     fn from(a: Answer) -> Values {
         match a {
-            Ok(Reading::Done) => DONE,
+            Ok(Reading::Done) => Values::plain(0),
             Ok(Reading::Page(kind, owner)) => Values {
                 kind,
                 owner,
-                ..DONE
+                ..Values::plain(0)
             },
             Ok(Reading::Entry(level, state, hpa)) => Values {
                 level,
                 state,
                 hpa,
-                ..DONE
+                ..Values::plain(0)
             },
-            Err(Refusal::No(fault, _)) => Values {
-                number: fault.number(),
-                ..DONE
-            },
+            Err(Refusal::No(fault, _)) => Values::plain(fault.number()),
             Err(Refusal::Stop(fault, level, state)) => Values {
-                number: fault.number(),
                 level,
                 state,
-                ..DONE
+                ..Values::plain(fault.number())
             },
         }
     }

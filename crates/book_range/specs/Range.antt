@@ -1,7 +1,7 @@
 -- Answer 13: "any stored number or code outside its range (a frame's epoch from 0, a child count up to the frames)", and, of
 -- "What is written down", "A place without use [..] holds 0; another value there is out of range", "answer 13 doesn't look into
 -- unused ones".
-use Rattle.std.specs.Prelude.{ℕ, ◌+◌, Bool, false, List, length, eqb, ltb, leb}
+use Rattle.std.specs.Prelude.{ℕ, ◌+◌, ◌%◌, Bool, false, List, [], ◌∷◌, length, get_or, eqb, ltb, leb}
 use Rattle.base_rules.specs.Basics.{choose, implies, need, given, all_from}
 use Rattle.base_units.specs.{Limits.table_entries, Limits.control_pages, Limits.epoch_most, Limits.key_ok, Limits.epoch_ok, declared.address.Hpa.Hpa}
 use Rattle.book_stock.specs.Bits.{in_use, spare_clear}
@@ -17,27 +17,34 @@ use Rattle.book_range.specs.declared.FrameLimits.{FrameLimits}
 abbrev pub under : ℕ → ℕ → ℕ → ℕ → FrameLimits
 under o n e s = record { owner = o; number = n; epoch = e; size = s }
 
--- the types with an epoch, and no type
-abbrev pub dated_limits : Sizes → ℕ → FrameLimits
-dated_limits s kind =
-    choose (eqb kind EPT) (under s.frames s.tables (epoch_most + 1) 1) (
-    choose (eqb kind REG) (under s.frames 1 (epoch_most + 1) 1)
-    (under 0 0 0 0))
-
 unfoldable pub frame_limits : Sizes → ℕ → FrameLimits
 frame_limits s kind =
     choose (eqb kind NDA) (under 1 1 1 1) (
     choose (eqb kind TDR) (under 1 s.records 1 1) (
-    choose (eqb kind TDCX) (under s.frames 1 1 1)
-    (dated_limits s kind)))
+    choose (eqb kind TDCX) (under s.frames 1 1 1) (
+    choose (eqb kind EPT) (under s.frames s.tables (epoch_most + 1) 1) (
+    choose (eqb kind REG) (under s.frames 1 (epoch_most + 1) 1)
+    (under 0 0 0 0)))))
 
-abbrev pub frame_fits : Sizes → Frame → Bool
-frame_fits s f =
-    given (frame_limits s f.kind) λ l.
+-- the same, of each number that a word's type can be
+abbrev pub limits_by_type : Sizes → List FrameLimits
+limits_by_type s =
+    frame_limits s 0 ∷ frame_limits s 1 ∷ frame_limits s 2 ∷ frame_limits s 3 ∷
+    frame_limits s 4 ∷ frame_limits s 5 ∷ frame_limits s 6 ∷ frame_limits s 7 ∷ []
+
+abbrev pub fits_under : FrameLimits → Frame → Bool
+fits_under l f =
     need (ltb f.owner.0 l.owner) false (
     need (ltb f.number l.number) false (
     need (ltb f.epoch l.epoch) false
     (ltb f.size l.size)))
+
+abbrev pub frame_fits : Sizes → Frame → Bool
+frame_fits s f = given (frame_limits s f.kind) λ l. fits_under l f
+
+-- the same, of limits in a row
+abbrev pub fits_by_type : List FrameLimits → Frame → Bool
+fits_by_type ls f = fits_under (get_or ls (f.kind % 8) (under 0 0 0 0)) f
 
 unfoldable pub frame_ok : Sizes → List ℕ → ℕ → Bool
 frame_ok s fs n = given (frame_at fs (record { 0 = n })) λ f. frame_fits s f

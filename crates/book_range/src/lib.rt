@@ -3,7 +3,7 @@
 
 ghost use Rattle.std.specs.Prelude.{◌≡◌};
 ghost use Rattle.book_ledger.specs.Lent.{tables_in};
-ghost use Rattle.book_range.specs.Range.{under, dated_limits, frame_limits, frame_fits, all_frames_ok, entry_fits, entries_ok, page_ok};
+ghost use Rattle.book_range.specs.Range.{under, frame_limits, limits_by_type, fits_by_type, all_frames_ok, entry_fits, entries_ok, page_ok};
 ghost use Rattle.book_range.specs.Range.{pages_ok, domain_ok, record_ok, table_ok, all_tables_ok, rooted_ok, all_records_ok, lent_ok};
 
 use base_units::limits::{CONTROL_PAGES, EPOCHS, KEYS, TABLE_ENTRIES};
@@ -23,6 +23,9 @@ pub struct FrameLimits {
     pub size: u64,
 }
 
+// A frame's word has 3 bits for its type: the paper's five, and three that are none.
+const TYPES: usize = 8;
+
 fn below(owner: u64, number: u64, epoch: u64, size: u64) -> FrameLimits
     ensures { result ≡ under owner number epoch size }
 {
@@ -32,20 +35,6 @@ fn below(owner: u64, number: u64, epoch: u64, size: u64) -> FrameLimits
         epoch,
         size,
     }
-}
-
-// Apart: five types told apart in one function become a jump by a table, which is slow at each frame.
-#[inline(never)]
-fn dated_limits(s: Sizes, kind: u64) -> FrameLimits
-    ensures { result ≡ dated_limits s kind }
-{
-    if kind == EPT {
-        return below(s.frames as u64, s.tables as u64, EPOCHS.most + 1, 1);
-    }
-    if kind == REG {
-        return below(s.frames as u64, 1, EPOCHS.most + 1, 1);
-    }
-    below(0, 0, 0, 0)
 }
 
 fn frame_limits(s: Sizes, kind: u64) -> FrameLimits
@@ -60,13 +49,35 @@ fn frame_limits(s: Sizes, kind: u64) -> FrameLimits
     if kind == TDCX {
         return below(s.frames as u64, 1, 1, 1);
     }
-    dated_limits(s, kind)
+    if kind == EPT {
+        return below(s.frames as u64, s.tables as u64, EPOCHS.most + 1, 1);
+    }
+    if kind == REG {
+        return below(s.frames as u64, 1, EPOCHS.most + 1, 1);
+    }
+    below(0, 0, 0, 0)
 }
 
-fn frame_ok(s: Sizes, f: Frame) -> bool
-    ensures { result ≡ frame_fits s f }
+// The limits of every type that a word can hold, by its number: told apart once for all frames, and only looked up at each.
+fn limits_by_type(s: Sizes) -> [FrameLimits; TYPES]
+    ensures { result ≡ limits_by_type s }
 {
-    let l = frame_limits(s, f.kind);
+    [
+        frame_limits(s, 0),
+        frame_limits(s, 1),
+        frame_limits(s, 2),
+        frame_limits(s, 3),
+        frame_limits(s, 4),
+        frame_limits(s, 5),
+        frame_limits(s, 6),
+        frame_limits(s, 7),
+    ]
+}
+
+fn frame_ok(limits: &[FrameLimits; TYPES], f: Frame) -> bool
+    ensures { result ≡ fits_by_type limits.now f }
+{
+    let l = limits[f.kind as usize % TYPES];
     let owner = f.owner;
     if (owner.0 as u64) >= l.owner {
         return false;
@@ -83,7 +94,10 @@ fn frame_ok(s: Sizes, f: Frame) -> bool
 fn all_frames_ok(s: Sizes, frames: &[u64]) -> bool
     ensures { result ≡ all_frames_ok s frames.now }
 {
-    frames.iter().all(|&word| frame_ok(s, Frame::from(word)))
+    let limits = limits_by_type(s);
+    frames
+        .iter()
+        .all(|&word| frame_ok(&limits, Frame::from(word)))
 }
 
 fn entry_ok(frames: usize, e: Entry) -> bool

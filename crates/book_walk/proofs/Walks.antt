@@ -17,17 +17,29 @@ unfolding walk_from given
 walk_step fs st es tdr gpa want zero block = if_true _ (leb·zero want) refl
 walk_step fs st es tdr gpa want (suc l) block = let e : suc l - 1 ≡ l = omega arith in rw e
 
--- a walk's answer r, which its contract gives as w, and the way that a `?` left: the walk's refusal is passed on
+-- a walk's answer r, which its contract gives as w, and the way that a match left
+module _ {A : Type 0} {z : A} {r w : Walk} where
+  pub walk_at : {p : Slot} (s : ℕ → ℕ → A) (f : A) (k : ℕ → ℕ → A) → r ≡ w → r ≡ Ok p → z ≡ k p.block p.index → z ≡ on_walk w s f k
+  unfolding on_walk
+  walk_at s f k e h g = rw (← e, h) g
+
+  pub walk_foreign : {f : A} (s : ℕ → ℕ → A) (k : ℕ → ℕ → A) → r ≡ w → r ≡ Err Foreign → z ≡ f → z ≡ on_walk w s f k
+  unfolding on_walk
+  walk_foreign s k e h g = rw (← e, h) g
+
+  pub walk_stopped : {l t : ℕ} (s : ℕ → ℕ → A) (f : A) (k : ℕ → ℕ → A) → r ≡ w → r ≡ Err (Stopped l t) → z ≡ s l t → z ≡ on_walk w s f k
+  unfolding on_walk
+  walk_stopped s f k e h g = rw (← e, h) g
+
+-- the same where a `?` left: the walk's refusal is passed on
 module _ {B : Type 0} {v : Result B Refusal} {r w : Walk} where
   pub walk_found : {at : Slot} (s : ℕ → ℕ → Result B Refusal) (f : Result B Refusal) (k : ℕ → ℕ → Result B Refusal) → r ≡ w → r ≡ Ok at
       → v ≡ k at.block at.index → v ≡ on_walk w s f k
-  unfolding on_walk
-  walk_found s f k e h g = rw (← e, h) g
+  walk_found = walk_at
 
   pub walk_lost : {s : Stray} (k : ℕ → ℕ → Result B Refusal) → r ≡ w → r ≡ Err s → v ≡ Err (refusal_of s)
       → v ≡ on_walk w (λ l j. Err (Stop Fault.Walk l j)) (Err (No Fault.Link NONE)) k
-  unfolding on_walk
-  walk_lost {s = Stopped l j} k e h g = rw (← e, h) g
-  walk_lost {s = Foreign} k e h g = rw (← e, h) g
+  walk_lost {s = Stopped l j} k = walk_stopped (λ l j. Err (Stop Fault.Walk l j)) (Err (No Fault.Link NONE)) k
+  walk_lost {s = Foreign} k = walk_foreign (λ l j. Err (Stop Fault.Walk l j)) k
 
 pub ruleset walks = (walk_found, walk_lost)

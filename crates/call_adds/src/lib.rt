@@ -102,7 +102,7 @@ fn page_at(t: &Lent, x: Subject, gpa: Gpa, f: Pfn, state: u64) -> Plan
 pub fn plan_septadd(t: &Lent, tdr: Hpa, gpa: Gpa, level: usize, hpa: Hpa) -> Plan
     ensures { result ≡ septadd_plan t.now.base (tables_in t.now) tdr gpa level hpa }
 {
-    let f = lookup::frame_operand(t, hpa, 3);
+    let f = lookup::frame_operand(t.base, t.frames.len(), hpa, 3);
     let (x, m) = lookup::find_spot(t, tdr, gpa, level, 1, f, LIVE)?;
     sept_at(t, x, gpa, level, m)
 }
@@ -111,7 +111,7 @@ pub fn plan_septadd(t: &Lent, tdr: Hpa, gpa: Gpa, level: usize, hpa: Hpa) -> Pla
 pub fn plan_page(t: &Lent, tdr: Hpa, gpa: Gpa, hpa: Hpa, op: u64, state: u64) -> Plan
     ensures { result ≡ page_plan t.now.base (tables_in t.now) tdr gpa hpa op state }
 {
-    let f = lookup::frame_operand(t, hpa, 2);
+    let f = lookup::frame_operand(t.base, t.frames.len(), hpa, 2);
     let ops = Limits {
         least: op,
         most: op,

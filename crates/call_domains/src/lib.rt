@@ -101,7 +101,7 @@ fn enlists(frames: &[u64], x: Subject, f: Pfn) -> Plan
 pub fn plan_addcx(t: &Lent, tdr: Hpa, hpa: Hpa) -> Plan
     ensures { result ≡ addcx_plan t.now.base (tables_in t.now) tdr hpa }
 {
-    let f = lookup::frame_operand(t, hpa, 1);
+    let f = lookup::frame_operand(t.base, t.frames.len(), hpa, 1);
     let (x, m) = lookup::find_parties(t, tdr, f)?;
     enlists(t.frames, x, m)
 }
@@ -172,7 +172,7 @@ fn new_record(f: Pfn, key: u64, bit: usize, root: usize, rec: usize) -> Plan
 pub fn plan_create(t: &Lent, hpa: Hpa, key: u64) -> Plan
     ensures { result ≡ create_plan t.now.base (tables_in t.now) hpa key }
 {
-    let f = lookup::frame_operand(t, hpa, 0)?;
+    let f = lookup::frame_operand(t.base, t.frames.len(), hpa, 0)?;
     if !limits::KEYS.allow(key) {
         return Err(Refusal::No(Fault::Operand, 1));
     }

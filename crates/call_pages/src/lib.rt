@@ -75,14 +75,14 @@ fn reclaim_at(t: &Lent, n: Pfn) -> Plan
 pub fn plan_reclaim(t: &Lent, hpa: Hpa) -> Plan
     ensures { result ≡ reclaim_plan t.now.base (tables_in t.now) hpa }
 {
-    let n = lookup::frame_operand(t, hpa, 0)?;
+    let n = lookup::frame_operand(t.base, t.frames.len(), hpa, 0)?;
     reclaim_at(t, n)
 }
 
 pub fn plan_readpage(t: &Lent, hpa: Hpa) -> Plan
     ensures { result ≡ readpage_plan t.now.base (tables_in t.now) hpa }
 {
-    let n = lookup::frame_operand(t, hpa, 0)?;
+    let n = lookup::frame_operand(t.base, t.frames.len(), hpa, 0)?;
     let f = tables::frame_at(t.frames, n);
     if f.kind < TDCX {
         return Ok(Deed::Tell(Reading::Page(f.kind, Hpa(0))));

@@ -1,5 +1,5 @@
 // Whom a call is about: the operands, the domain, and the state that its record is in.
-ghost use Rattle.std.specs.Prelude.{◌≡◌, length};
+ghost use Rattle.std.specs.Prelude.{◌≡◌};
 ghost use Rattle.book_ledger.specs.Lent.{tables_in};
 ghost use Rattle.call_plan.specs.Lookup.{frame_operand, is_nda, domain_for, parties_for, built_for, spot_operand, spot_for};
 
@@ -35,10 +35,10 @@ pub struct Subject {
 }
 
 // The frame that an operand names, or the operand at fault.
-pub fn frame_operand(t: &Lent, hpa: Hpa, operand: u64) -> Result<Pfn, Refusal>
-    ensures { result ≡ frame_operand t.now.base (length t.now.frames.now) hpa operand }
+pub fn frame_operand(base: Hpa, frames: usize, hpa: Hpa, operand: u64) -> Result<Pfn, Refusal>
+    ensures { result ≡ frame_operand base frames hpa operand }
 {
-    address::frame_of(t.base, t.frames.len(), hpa).ok_or(Refusal::No(Fault::Operand, operand))
+    address::frame_of(base, frames, hpa).ok_or(Refusal::No(Fault::Operand, operand))
 }
 
 // Whether a frame is free to be taken (else F's 2).
@@ -77,7 +77,7 @@ pub fn find_domain(t: &Lent, n: Pfn) -> Result<Subject, Refusal>
 pub fn find_parties(t: &Lent, tdr: Hpa, f: Result<Pfn, Refusal>) -> Result<(Subject, Pfn), Refusal>
     ensures { result ≡ parties_for t.now.base (tables_in t.now) tdr f }
 {
-    let n = frame_operand(t, tdr, 0)?;
+    let n = frame_operand(t.base, t.frames.len(), tdr, 0)?;
     let m = f?;
     let x = find_domain(t, n)?;
     Ok((x, m))

@@ -4,7 +4,7 @@
 ghost use Rattle.std.specs.Prelude.{◌≡◌};
 ghost use Rattle.base_numbers.specs.Number.{decimal};
 ghost use Rattle.door_answers.specs.Answers.{pen, held, wrote_byte, wrote, pair, pairs, level_state};
-ghost use Rattle.door_answers.specs.Answers.{read_out, answer_line, unreadable_line, pairs_line, first_line, last_line};
+ghost use Rattle.door_answers.specs.Answers.{read_out, line_with, answer_line, unreadable_line, pairs_line, first_line, last_line};
 
 use base_calls::{Answer, Fault, Reading, Refusal, Values};
 use base_numbers::ZERO;
@@ -91,11 +91,11 @@ impl Pen<'_> {
         }
     }
 
-    fn line(&mut self, line: u64, answer: Answer)
+    fn line(&mut self, line: u64, number: u64, answer: Answer)
         ensures same { self.new.out.ghost_name ≡ self.old.out.ghost_name }
-        ensures wrote { held self.new ≡ wrote (answer_line line answer) (held self.old) }
+        ensures wrote { held self.new ≡ wrote (line_with line number answer) (held self.old) }
     {
-        self.pairs(b"line\t", line, b"\tanswer\t", Values::from(answer).number);
+        self.pairs(b"line\t", line, b"\tanswer\t", number);
         self.read_out(answer);
         self.put(LF);
     }
@@ -113,8 +113,15 @@ impl Pen<'_> {
 pub fn write_answer(out: &mut [u8], line: u64, answer: Answer) -> usize
     ensures { pen out.new result ≡ wrote (answer_line line answer) (pen out.old 0) }
 {
+    write_line(out, line, Values::from(answer).number, answer)
+}
+
+// The same with any number in the place of the answer's, one that is no fault's too.
+pub fn write_line(out: &mut [u8], line: u64, number: u64, answer: Answer) -> usize
+    ensures { pen out.new result ≡ wrote (line_with line number answer) (pen out.old 0) }
+{
     let mut pen = Pen { out, at: 0 };
-    pen.line(line, answer);
+    pen.line(line, number, answer);
     pen.at
 }
 

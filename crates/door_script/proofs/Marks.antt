@@ -1,15 +1,16 @@
 -- The part of a text in front of a mark, and the fields of a line as the library cuts it at its tabs.
 use Rattle.std.proofs.Common.{Option, Some, None, MatchOption, cond, Bor, slice_get}
 use Rattle.std.specs.Option.{unwrap_or, option_map}
-use Rattle.std.specs.List.{AllWithin, HoldsAt, slice_split, onto_first}
+use Rattle.std.specs.List.{AllWithin, HoldsAt, slice_range, slice_split, onto_first}
+use Rattle.std.proofs.lemmas.Grind.{common_steps}
 use Rattle.std.proofs.lemmas.Option.{unwrap_or-slice_get}
 use Rattle.std.proofs.lemmas.Iterator.{index_from_first}
-use Rattle.base_rules.specs.Basics.{◌≡◌, Bool, true, false, List, [], ◌∷◌, ℕ, zero, suc, ◌+◌, ◌<◌, ◌≤◌, eqb, length, get_or, take, drop, choose, on_option}
-use Rattle.base_rules.proofs.Facts.{refl, ◌∙◌, ap, arith, eq-eqb, ne_eqb, length-take, choose_both}
+use Rattle.base_rules.specs.Basics.{◌≡◌, Bool, true, false, List, [], ◌∷◌, ℕ, zero, suc, ◌+◌, ◌<◌, ◌≤◌, ◌⊎◌, eqb, length, get_or, take, drop, choose, on_option}
+use Rattle.base_rules.proofs.Facts.{refl, ◌∙◌, ap, sym, arith, eq-eqb, ne_eqb, length-take, drop_of_length-le, choose_both}
 use Rattle.base_numbers.specs.Number.{number_read}
 use Rattle.door_script.specs.{Text.tab, Text.upto, Lines.field_at, Lines.number_in}
 
-upto_take : (mark : ℕ) (l : List ℕ) → take (length (upto mark l)) l ≡ upto mark l
+pub upto_take : (mark : ℕ) (l : List ℕ) → take (length (upto mark l)) l ≡ upto mark l
 unfolding upto
 upto_take mark [] = refl
 upto_take mark (b ∷ l) =
@@ -31,12 +32,19 @@ unfolding upto
 no_upto mark = refl
 
 -- by where the library finds the mark
-pub upto_found : (mark : ℕ) (l : List ℕ) (r : Option ℕ)
+pub end_found : (mark : ℕ) (l : List ℕ) (r : Option ℕ)
     → MatchOption r (AllWithin (λ b. b ≡ mark → ⊥) l 0 (length l)) (λ i. (i < length l) × HoldsAt (λ b. b ≡ mark) l i × AllWithin (λ b. b ≡ mark → ⊥) l 0 i)
-    → take (unwrap_or r (length l)) l ≡ upto mark l
-upto_found mark l r f =
-    let e = index_from_first (λ l. length (upto mark l)) (λ b. b ≡ mark) (λ b. b ≡ mark → ⊥) (no_upto mark) (upto_hit mark) (upto_miss mark) l r f in
-    rw (← e) (upto_take mark l)
+    → unwrap_or r (length l) ≡ length (upto mark l)
+end_found mark l r f =
+    sym (index_from_first (λ l. length (upto mark l)) (λ b. b ≡ mark) (λ b. b ≡ mark → ⊥) (no_upto mark) (upto_hit mark) (upto_miss mark) l r f)
+
+-- the part from `from` on, as the library hands it out: nothing of it where that is past the end
+pub part_from : (l : List ℕ) (from : ℕ) (r : Option (Bor (List ℕ))) (d : Bor (List ℕ)) {x : Bor (List ℕ)} → x ≡ unwrap_or r d → d.now ≡ []
+    → MatchOption r ((length l < from) ⊎ (length l < length l)) (λ p. (from ≤ length l) × (length l ≤ length l) × p.now ≡ slice_range l from (length l)
+    × length p.now + from ≡ length l)
+    → x.now ≡ drop from l
+part_from l from None d e n f = let h : length l ≤ from = omega (arith, f) in rw (e, n, drop_of_length-le l h) refl
+part_from l from (Some p) d e n f = let h : slice_range l from (length l) ≡ drop from l = grind (arith, common_steps) in rw (e, f.2, h) refl
 
 abbrev parts : List ℕ → List (List ℕ)
 parts l = slice_split (λ b. eqb b tab) l

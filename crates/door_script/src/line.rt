@@ -1,5 +1,6 @@
 // A script's line, read as a call.
-ghost use Rattle.std.specs.Prelude.{◌≡◌};
+ghost use Rattle.std.specs.Prelude.{◌≡◌, ◌+◌, length, drop};
+ghost use Rattle.door_script.specs.Text.{upto};
 ghost use Rattle.door_script.specs.Lines.{field, taken_by, fits, number_in, numbers_of, place, call_at, line_of};
 
 use base_calls::Call;
@@ -123,12 +124,20 @@ const ROWS: [Row; 19] = [
     },
 ];
 
+// Where the first `mark` stands, from `from` on, or the end.
+pub fn end_of(text: &[u8], from: usize, mark: u8) -> usize
+    ensures { result ≡ from + length (upto mark (drop from text.now)) }
+{
+    let rest = text.get(from..).unwrap_or(&[]);
+    let end = rest.iter().position(|&byte| byte == mark);
+    from + end.unwrap_or(rest.len())
+}
+
 // The field that a line begins with.
 fn field(line: &[u8]) -> &[u8]
     ensures { result.now ≡ field line.now }
 {
-    let end = line.iter().position(|&byte| byte == TAB);
-    &line[..end.unwrap_or(line.len())]
+    &line[..end_of(line, 0, TAB)]
 }
 
 // How many bytes of a line a byte of a row stands for, if the line goes on so.

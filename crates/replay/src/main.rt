@@ -69,15 +69,20 @@ fn main(rt: HostRuntime) {
 }
 
 impl Desk<'_> {
-    // A fresh start with the program's marks, the first line, the script, the last line.
+    // A fresh start, the first line, the script, the last line.
     fn replay(&mut self, input: &mut [u8]) {
-        self.ask(Ask::Reset);
-        self.ask(Ask::Marks(0.75, 0.5));
+        self.start();
         let n = door_answers::write_first(&mut self.out, FRAMES);
         self.pending = door_feed::within(n, &self.out);
         self.read_all(input);
         self.end_line();
         self.finish();
+    }
+
+    // A reset, and the program's marks.
+    fn start(&mut self) {
+        self.ask(Ask::Reset);
+        self.ask(Ask::Marks(0.75, 0.5));
     }
 
     fn ask(&mut self, ask: Ask) {

@@ -14,6 +14,14 @@ pub returns-then-kind-eq-TDCX : goal.returns-then-kind-eq-TDCX
 unfolding frame_limits
 returns-then-kind-eq-TDCX c = search steps depth 12
 
+pub returns-then-kind-eq-EPT : goal.returns-then-kind-eq-EPT
+unfolding frame_limits
+returns-then-kind-eq-EPT c = search steps depth 12
+
+pub returns-then-kind-eq-REG : goal.returns-then-kind-eq-REG
+unfolding frame_limits
+returns-then-kind-eq-REG c = search steps depth 12
+
 pub returns : goal.returns
 unfolding frame_limits
 returns c = search steps depth 12

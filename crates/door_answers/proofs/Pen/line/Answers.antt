@@ -4,4 +4,4 @@ use Rattle.door_answers.proofs.Pen.line.Goals as goal
 
 pub returns-clause-wrote : goal.returns-clause-wrote
 unfolding line_with
-returns-clause-wrote c = let w = rw c.from.ensures at c.pairs.ensures.wrote in search writes
+returns-clause-wrote c = search writes

@@ -1,11 +1,10 @@
-use Rattle.std.proofs.Common.{◌≡◌, rules, tests}
-use Rattle.std.proofs.lemmas.Iterator.{IsFirst-from_position, YieldsList-from_slice}
+use Rattle.base_rules.proofs.Facts.{arith, zero-add, length-take}
 use Rattle.door_script.specs.Text.{tab}
-use Rattle.door_script.proofs.Marks.{upto_found}
+use Rattle.door_script.proofs.Marks.{upto_take, upto_within}
 use Rattle.door_script.proofs.line.field.Goals as goal
 
+pub slice_bounds-result-end : goal.slice_bounds-result-end
+slice_bounds-result-end c = rw length-take (omega (arith, c.end_of.ensures, upto_within tab c.args.line.now))
+
 pub returns : goal.returns
-returns c =
-    let line = c.args.line.now in
-    rw c.unwrap_or.ensures (upto_found tab line _
-    (IsFirst-from_position _ _ _ (λ b. b ≡ tab) (λ b. b ≡ tab → ⊥) c.position-end.ensures.ran (YieldsList-from_slice line cc) (λ x q k. search (rules, tests)) (λ x q k. search (rules, tests))))
+returns c = rw (c.end_of.ensures, zero-add) (upto_take tab c.args.line.now)

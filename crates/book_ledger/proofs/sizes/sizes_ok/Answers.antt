@@ -1,6 +1,6 @@
 use Rattle.base_rules.proofs.Facts.{steps}
 use Rattle.book_ledger.specs.Sizes.{sizes_ok}
-use Rattle.book_ledger.proofs.tables.Lent.sizes_ok.Goals as goal
+use Rattle.book_ledger.proofs.sizes.sizes_ok.Goals as goal
 
 pub returns-then-not-base_ok : goal.returns-then-not-base_ok
 unfolding sizes_ok

@@ -1,5 +1,5 @@
 use Rattle.book_ledger.specs.Sizes.{bit_of, root_of}
-use Rattle.book_ledger.proofs.tables.Lent.root_of.Goals as goal
+use Rattle.book_ledger.proofs.sizes.root_of.Goals as goal
 
 pub returns : goal.returns
 unfolding bit_of root_of

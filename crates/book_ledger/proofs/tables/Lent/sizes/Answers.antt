@@ -1,6 +1,0 @@
-use Rattle.book_ledger.specs.Sizes.{sizes_of}
-use Rattle.book_ledger.proofs.tables.Lent.sizes.Goals as goal
-
-pub returns : goal.returns
-unfolding sizes_of
-returns c = rw c.tables.ensures
