@@ -38,6 +38,12 @@ pub end_found : (mark : ℕ) (l : List ℕ) (r : Option ℕ)
 end_found mark l r f =
     sym (index_from_first (λ l. length (upto mark l)) (λ b. b ≡ mark) (λ b. b ≡ mark → ⊥) (no_upto mark) (upto_hit mark) (upto_miss mark) l r f)
 
+-- and the part in front of it
+pub upto_found : (mark : ℕ) (l : List ℕ) (r : Option ℕ)
+    → MatchOption r (AllWithin (λ b. b ≡ mark → ⊥) l 0 (length l)) (λ i. (i < length l) × HoldsAt (λ b. b ≡ mark) l i × AllWithin (λ b. b ≡ mark → ⊥) l 0 i)
+    → take (unwrap_or r (length l)) l ≡ upto mark l
+upto_found mark l r f = rw (end_found mark l r f) (upto_take mark l)
+
 -- the part from `from` on, as the library hands it out: nothing of it where that is past the end
 pub part_from : (l : List ℕ) (from : ℕ) (r : Option (Bor (List ℕ))) (d : Bor (List ℕ)) {x : Bor (List ℕ)} → x ≡ unwrap_or r d → d.now ≡ []
     → MatchOption r ((length l < from) ⊎ (length l < length l)) (λ p. (from ≤ length l) × (length l ≤ length l) × p.now ≡ slice_range l from (length l)
