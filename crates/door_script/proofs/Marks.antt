@@ -38,7 +38,7 @@ pub end_found : (mark : ℕ) (l : List ℕ) (r : Option ℕ)
 end_found mark l r f =
     sym (index_from_first (λ l. length (upto mark l)) (λ b. b ≡ mark) (λ b. b ≡ mark → ⊥) (no_upto mark) (upto_hit mark) (upto_miss mark) l r f)
 
--- and the part in front of it
+-- and the part in front of it; for whoever cites it (docs/DECISIONS.md, question 137)
 pub upto_found : (mark : ℕ) (l : List ℕ) (r : Option ℕ)
     → MatchOption r (AllWithin (λ b. b ≡ mark → ⊥) l 0 (length l)) (λ i. (i < length l) × HoldsAt (λ b. b ≡ mark) l i × AllWithin (λ b. b ≡ mark → ⊥) l 0 i)
     → take (unwrap_or r (length l)) l ≡ upto mark l
